@@ -1,0 +1,5 @@
+pub mod Bytes
+pub mod Decimal
+pub mod Hex
+pub mod Quotes
+pub mod Told
