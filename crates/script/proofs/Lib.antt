@@ -1,2 +1,4 @@
 pub mod Decimals
 pub mod Hexes
+pub mod Cuts
+pub mod Tellings

@@ -3,3 +3,4 @@ pub mod Decimal
 pub mod Hex
 pub mod Quotes
 pub mod Told
+pub mod Words

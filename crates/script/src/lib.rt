@@ -3,6 +3,7 @@ mod bytes;
 mod items;
 mod numbers;
 mod problems;
+mod words;
 
 pub use problems::Failure;
 pub use problems::FailureDisplay;
