@@ -1,4 +1,7 @@
+pub mod Cuts
 pub mod Decimals
 pub mod Hexes
-pub mod Cuts
 pub mod Tellings
+pub mod VerbWords
+pub mod Lents
+pub mod SectionTurns

@@ -1,6 +1,9 @@
+pub mod Asked
 pub mod Bytes
+pub mod Calls
 pub mod Decimal
 pub mod Hex
 pub mod Quotes
 pub mod Told
 pub mod Words
+pub mod Verbs

@@ -31,9 +31,12 @@ word-at bs = take (leading (has OfWord) (skip bs)) (skip bs)
 abbrev pub after-word : List ℕ → List ℕ
 after-word bs = drop (leading (has OfWord) (skip bs)) (skip bs)
 
+abbrev pub empty : List ℕ → Bool
+empty bs = eqb (length bs) 0
+
 -- a word that has to be a number
 abbrev pub wanted-number : List ℕ → Result ℕ Problem
-wanted-number w = cond (eqb (length w) 0) (Err NumberMissing) (number-of w)
+wanted-number w = cond (empty w) (Err NumberMissing) (number-of w)
 
 abbrev pub number-at : List ℕ → Result ℕ Problem
 number-at bs = wanted-number (word-at bs)
@@ -64,4 +67,13 @@ item-at bs = cond (quote-first (skip bs)) (quoted-of (drop 1 (skip bs))) (leavin
 
 -- nothing but blanks and a comment is left
 abbrev pub ended : List ℕ → Result (Unit {0}) Problem
-ended bs = cond (eqb (length (word-at bs)) 0) (Ok tt) (Err WordTooMany)
+ended bs = cond (empty (word-at bs)) (Ok tt) (Err WordTooMany)
+
+-- an answer that has to end the line
+abbrev pub then-end : {X : Type 0} → Result X Problem → Result (Unit {0}) Problem → Result X Problem
+then-end (Err p) end = Err p
+then-end (Ok x) (Err p) = Err p
+then-end (Ok x) (Ok u) = Ok x
+
+abbrev pub last-number-at : List ℕ → Result ℕ Problem
+last-number-at bs = then-end (number-at bs) (ended (after-word bs))

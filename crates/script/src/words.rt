@@ -2,8 +2,9 @@
 ghost use mathlib.Core.Path.{_≡_};
 ghost use Rattle.std.specs.Of.Vec.{vec-items};
 ghost use Rattle.std.specs.Vec.{made};
+ghost use Rattle.std.specs.shelf.Text.{sameBytes};
 ghost use Rattle.script.specs.Told.{Tells};
-ghost use Rattle.script.specs.Words.{after-word, ended, item-at, left, number-at, pair-at, plain-of, quote-first, skip, word-at};
+ghost use Rattle.script.specs.Words.{after-word, ended, item-at, last-number-at, left, number-at, pair-at, plain-of, quote-first, skip, word-at};
 use crate::bytes::Class;
 use crate::bytes::run;
 use crate::items::from_hex;
@@ -18,6 +19,13 @@ use std::alloc::Global;
 #[derive(Clone, Copy)]
 pub struct Line<'a> {
     rest: &'a [u8],
+}
+
+// Whether a word of the file is this text.
+pub fn is(word: &[u8], text: &str) -> bool
+    ensures { λ r. ⌜ r ≡ sameBytes (now (word .entry)) (now (text .entry)) ⌝ }
+{
+    word == text.as_bytes()
 }
 
 fn without_blanks(bytes: &[u8]) -> &[u8]
@@ -101,5 +109,14 @@ impl<'a> Line<'a> {
         } else {
             Err(Problem::WordTooMany)
         }
+    }
+
+    // A number that ends the line.
+    pub fn last_number(&mut self) -> Result<u64, Problem>
+        ensures { λ r. ⌜ r ≡ last-number-at (left (now (self .entry))) ⌝ }
+    {
+        let n = self.number()?;
+        self.end()?;
+        Ok(n)
     }
 }
