@@ -77,3 +77,6 @@ then-end (Ok x) (Ok u) = Ok x
 
 abbrev pub last-number-at : List ℕ → Result ℕ Problem
 last-number-at bs = then-end (number-at bs) (ended (after-word bs))
+
+abbrev pub last-pair-at : List ℕ → Result (ℕ × ℕ) Problem
+last-pair-at bs = then-end (pair-at bs) (ended (after-word (after-word bs)))

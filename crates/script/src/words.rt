@@ -4,7 +4,7 @@ ghost use Rattle.std.specs.Of.Vec.{vec-items};
 ghost use Rattle.std.specs.Vec.{made};
 ghost use Rattle.std.specs.shelf.Text.{sameBytes};
 ghost use Rattle.script.specs.Told.{Tells};
-ghost use Rattle.script.specs.Words.{after-word, ended, item-at, last-number-at, left, number-at, pair-at, plain-of, quote-first, skip, word-at};
+ghost use Rattle.script.specs.Words.{after-word, ended, item-at, last-number-at, last-pair-at, left, number-at, pair-at, plain-of, quote-first, skip, word-at};
 use crate::bytes::Class;
 use crate::bytes::run;
 use crate::items::from_hex;
@@ -118,5 +118,14 @@ impl<'a> Line<'a> {
         let n = self.number()?;
         self.end()?;
         Ok(n)
+    }
+
+    // Two numbers that end the line.
+    pub fn last_pair(&mut self) -> Result<(u64, u64), Problem>
+        ensures { λ r. ⌜ r ≡ last-pair-at (left (now (self .entry))) ⌝ }
+    {
+        let numbers = self.pair()?;
+        self.end()?;
+        Ok(numbers)
     }
 }
