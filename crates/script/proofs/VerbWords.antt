@@ -40,4 +40,3 @@ word-is-text Prune = (verb-word Prune, (refl, refl))
 word-is-text Replay = (verb-word Replay, (refl, refl))
 word-is-text Next = (verb-word Next, (refl, refl))
 word-is-text Finish = (verb-word Finish, (refl, refl))
-

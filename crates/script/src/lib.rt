@@ -15,25 +15,49 @@ mod steps;
 mod words;
 
 use lines::cut_line;
-use problems::Stop;
-use settings::Draft;
-
 pub use problems::Failure;
+pub use problems::FailureDebug;
 pub use problems::FailureDisplay;
+pub use problems::FailureEq;
 pub use problems::FailureFromAlloc;
 pub use problems::FailureFromRefused;
+pub use problems::FailurePartialEq;
 pub use problems::Mistake;
+pub use problems::MistakeDebug;
 pub use problems::MistakeDisplay;
+pub use problems::MistakeEq;
+pub use problems::MistakePartialEq;
 pub use problems::Problem;
+pub use problems::ProblemDebug;
 pub use problems::ProblemDisplay;
+pub use problems::ProblemEq;
+pub use problems::ProblemPartialEq;
+use problems::Stop;
+use settings::Draft;
 pub use steps::Call;
 pub use steps::CallDebug;
 pub use steps::CallEq;
 pub use steps::CallPartialEq;
 pub use steps::Kind;
+pub use steps::KindDebug;
+pub use steps::KindEq;
+pub use steps::KindPartialEq;
 pub use steps::Medium;
+pub use steps::MediumDebug;
+pub use steps::MediumEq;
+pub use steps::MediumPartialEq;
 pub use steps::Script;
+pub use steps::ScriptDebug;
+pub use steps::ScriptEq;
+pub use steps::ScriptPartialEq;
 pub use steps::Step;
+pub use steps::StepDebug;
+pub use steps::StepEq;
+pub use steps::StepPartialEq;
+pub use steps::Verb;
+pub use steps::VerbDebug;
+pub use steps::VerbEq;
+pub use steps::VerbPartialEq;
 
 fn at_line(line: u64, stop: Stop) -> Failure
     ensures { λ r. ⌜ r ≡ failure-at line stop ⌝ }
@@ -60,3 +84,6 @@ pub fn parse(heap: Global, text: &[u8]) -> Result<Script, Failure>
     }
     Ok(draft.finish())
 }
+
+#[cfg(test)]
+mod tests;

@@ -13,14 +13,22 @@ fn trimmed(line: &[u8]) -> &[u8]
         return line;
     }
     let last = line.len() - 1;
-    if line[last] == b'\r' { &line[0..last] } else { line }
+    if line[last] == b'\r' {
+        &line[0..last]
+    } else {
+        line
+    }
 }
 
 // What follows the byte at `end`, which the last line lacks.
 fn beyond(text: &[u8], end: usize) -> &[u8]
     ensures { λ r. ⌜ now r ≡ drop (end + 1) (now (text .entry)) ⌝ }
 {
-    if end < text.len() { &text[end + 1..] } else { b"" }
+    if end < text.len() {
+        &text[end + 1..]
+    } else {
+        b""
+    }
 }
 
 pub fn cut_line(text: &[u8]) -> (&[u8], &[u8])

@@ -34,13 +34,19 @@ pub impl fmt::Display for Problem as ProblemDisplay {
             Problem::UnknownWord => f.write_str("this is neither a setting nor a step"),
             Problem::NumberMissing => f.write_str("a number is missing"),
             Problem::NotANumber => f.write_str("this is not a decimal number"),
-            Problem::NumberTooLarge => f.write_str("the number is larger than 18446744073709551615"),
+            Problem::NumberTooLarge => f.write_str(
+                "the number is larger than 18446744073709551615",
+            ),
             Problem::ItemMissing => f.write_str("the item is missing"),
             Problem::OddDigits => f.write_str("the item has an odd number of hexadecimal digits"),
             Problem::NotHex => f.write_str("the item has something else than hexadecimal digits"),
             Problem::QuoteNotClosed => f.write_str("the quoted text is not closed"),
-            Problem::Unprintable => f.write_str("the quoted text has a byte that is not printable ASCII"),
-            Problem::GluedToQuote => f.write_str("something follows the closing quote without a blank"),
+            Problem::Unprintable => f.write_str(
+                "the quoted text has a byte that is not printable ASCII",
+            ),
+            Problem::GluedToQuote => f.write_str(
+                "something follows the closing quote without a blank",
+            ),
             Problem::WordTooMany => f.write_str("there is a word too many"),
             Problem::SettingTwice => f.write_str("this setting is given twice"),
             Problem::SettingAfterStep => f.write_str("settings come before the first step"),

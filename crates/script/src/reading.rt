@@ -115,5 +115,9 @@ pub fn step(heap: Global, number: u64, word: &[u8], line: &mut Line) -> Result<S
     };
     let call = call(heap, verb, line)?;
     let work = work(line)?;
-    Ok(Step { call, work, line: number })
+    Ok(Step {
+        call,
+        work,
+        line: number,
+    })
 }

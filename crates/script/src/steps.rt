@@ -12,13 +12,8 @@ pub enum Kind {
 
 #[derive(Clone, Copy, PartialEq, Eq, Debug)]
 pub enum Medium {
-    Slots {
-        area: u64,
-        wish: u64,
-    },
-    Pages {
-        area: u64,
-    },
+    Slots { area: u64, wish: u64 },
+    Pages { area: u64 },
 }
 
 // The names of the steps.
@@ -95,39 +90,16 @@ impl Verb {
 #[derive(PartialEq, Eq, Debug, Drop)]
 pub enum Call {
     Open,
-    InitAtMost {
-        section: u64,
-        end: u64,
-    },
+    InitAtMost { section: u64, end: u64 },
     Close,
-    Lose {
-        section: u64,
-        length: u64,
-    },
-    Append {
-        section: u64,
-        item: Vec<u8>,
-    },
-    Sync {
-        sections: Vec<u64>,
-    },
-    Get {
-        section: u64,
-        offset: u64,
-    },
-    Size {
-        section: u64,
-    },
-    SectionsFrom {
-        section: u64,
-    },
-    Prune {
-        min: u64,
-    },
-    Replay {
-        section: u64,
-        offset: u64,
-    },
+    Lose { section: u64, length: u64 },
+    Append { section: u64, item: Vec<u8> },
+    Sync { sections: Vec<u64> },
+    Get { section: u64, offset: u64 },
+    Size { section: u64 },
+    SectionsFrom { section: u64 },
+    Prune { min: u64 },
+    Replay { section: u64, offset: u64 },
     Next,
     Finish,
 }

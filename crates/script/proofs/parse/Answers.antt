@@ -28,8 +28,7 @@ pub loop-rest-again : need.loop-rest-again
 loop-rest-again c =
     let rest = c .loop-rest .rest .now in
     let none = eqb-false (length rest) 0 (sym (c .loop-rest-test .ensures tt)) in
-    let some : 0 < length rest = omega (arith, none) in
-    (
+    let some : 0 < length rest = omega (arith, none) in (
       omega (arith, line-shortens rest some, ap length (c .cut-line .ensures .rest)),
       line-goes _ (drafted (c .loop-rest .draft)) (drafted (c .take .last .self)) (c .loop-rest .number) (c .cut-line .result .0 .now) rest (c .cut-line .result .1 .now) some (c .cut-line .ensures .line) (c .cut-line .ensures .rest) (c .in-rest .ensures tt) (c .loop-rest .inv .1),
     )
