@@ -1,0 +1,9 @@
+pub mod Cuts
+pub mod Decimals
+pub mod Hexes
+pub mod Lents
+pub mod LineTurns
+pub mod SectionTurns
+pub mod StepLines
+pub mod Tellings
+pub mod VerbWords

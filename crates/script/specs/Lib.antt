@@ -1,0 +1,12 @@
+pub mod Asked
+pub mod Bytes
+pub mod Calls
+pub mod Decimal
+pub mod Draft
+pub mod Hex
+pub mod Lines
+pub mod Parsed
+pub mod Quotes
+pub mod Told
+pub mod Verbs
+pub mod Words
