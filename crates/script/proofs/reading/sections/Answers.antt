@@ -32,7 +32,7 @@ loop-line-again c =
     let one : m ≡ n + 1 = c .in-Continue-push .ensures tt .len in
     let fuel : all - n ≡ suc (all - m) = omega (arith, section-shortens bs more) in (
       omega (arith, section-shortens bs more, ap length (c .number .ensures .after)),
-      section-turn _ bs (left (c .number .last .self)) (vec-items (c .loop-line .sections)) _ (all - n) (all - m) (c .in-Continue-section .section) more fuel (c .in-Continue-section .ensures tt .value) (c .number .ensures .after) (c .in-Continue-push .ensures tt .items) (c .loop-line .inv .1),
+      section-turn _ bs (left (c .number .last .self)) (vec-items (c .loop-line .sections)) (vec-items (c .push .last .self)) (all - n) (all - m) (c .in-Continue-section .section) more fuel (c .in-Continue-section .ensures tt .value) (c .number .ensures .after) (c .in-Continue-push .ensures tt .items) (c .loop-line .inv .1),
     )
 
 pub returns : need.returns

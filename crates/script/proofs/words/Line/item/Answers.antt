@@ -10,15 +10,15 @@ use Rattle.script.proofs.words.Line.item.Needs as need
 pub returns-then-not-opens-quote : need.returns-then-not-opens-quote
 returns-then-not-opens-quote c =
     tells-leaving vec-items (c .plain .result) _ _ (after-word (left (c .args .self .now))) _ (c .plain .ensures) (c .word .ensures .after)
-    (item-plain (left (c .args .self .now)) _ _ (c .without-blanks-tail .ensures) (c .if-not-opens-quote .ensures tt) (c .word .ensures .value))
+    (item-plain (left (c .args .self .now)) (c .without-blanks-tail .result .now) (c .word .result .now) (c .without-blanks-tail .ensures) (c .if-not-opens-quote .ensures tt) (c .word .ensures .value))
 
 pub returns-in-Break-text : need.returns-in-Break-text
 returns-in-Break-text c =
     let p = err-from-errBy (c .from-residual .result) (c .from-residual .ensures .1) in
     rw (p .1, p .2)
-    (item-quoted (left (c .args .self .now)) _ _ (c .without-blanks-tail .ensures) (c .if-not-opens-quote .ensures tt) (c .in-Break-text .ensures tt))
+    (item-quoted (left (c .args .self .now)) (c .without-blanks-tail .result .now) _ (c .without-blanks-tail .ensures) (c .if-not-opens-quote .ensures tt) (c .in-Break-text .ensures tt))
 
 pub returns : need.returns
 returns c =
-    item-quoted (left (c .args .self .now)) _ _ (c .without-blanks-tail .ensures) (c .if-not-opens-quote .ensures tt) (c .in-Continue-text .ensures tt)
+    item-quoted (left (c .args .self .now)) (c .without-blanks-tail .result .now) _ (c .without-blanks-tail .ensures) (c .if-not-opens-quote .ensures tt) (c .in-Continue-text .ensures tt)
     ∙ ap (λ l. Ok (l, c .in-Continue-text .after .now)) (sym (c .in-Continue-from-slice .ensures tt .made .0))
