@@ -46,7 +46,6 @@ pub use steps::MediumEq;
 pub use steps::MediumPartialEq;
 pub use steps::Script;
 pub use steps::Step;
-pub use steps::Verb;
 
 fn at_line(line: u64, stop: Stop) -> Failure
     ensures { λ r. ⌜ r ≡ failure-at line stop ⌝ }

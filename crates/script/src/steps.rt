@@ -105,7 +105,7 @@ pub enum Call {
 }
 
 impl Call {
-    pub fn verb(&self) -> Verb
+    fn verb(&self) -> Verb
         ensures { λ r. ⌜ r ≡ verb-in (now (self .entry)) ⌝ }
     {
         match self {

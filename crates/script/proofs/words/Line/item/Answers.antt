@@ -1,5 +1,6 @@
-use mathlib.Core.Path.{refl, ap, sym, _∙_}
+use mathlib.Core.Path.{_≡_, ap, sym, _∙_}
 use Rattle.std.proofs.shelf.Results.{err-from-errBy}
+use borrow.Author.Needs.{needs}
 use Rattle.std.specs.Of.Vec.{vec-items}
 use Rattle.std.specs.declared.result.Result.the-variants.{Ok, Err}
 use Rattle.script.specs.Words.{after-word, left}
@@ -20,5 +21,6 @@ returns-in-Break-text c =
 
 pub returns : need.returns
 returns c =
-    item-quoted (left (c .args .self .now)) (c .without-blanks-tail .result .now) _ (c .without-blanks-tail .ensures) (c .if-not-opens-quote .ensures tt) (c .in-Continue-text .ensures tt)
-    ∙ ap (λ l. Ok (l, c .in-Continue-text .after .now)) (sym (c .in-Continue-from-slice .ensures tt .made .0))
+    let read = item-quoted (left (c .args .self .now)) (c .without-blanks-tail .result .now) _ (c .without-blanks-tail .ensures) (c .if-not-opens-quote .ensures tt) (c .in-Continue-text .ensures tt) in
+    let copied : vec-items (c .in-Continue-from-slice .field-0) ≡ c .in-Continue-text .text .now = search needs in
+    read ∙ ap (λ l. Ok (l, c .in-Continue-text .after .now)) (sym copied)
