@@ -1,13 +1,12 @@
-use mathlib.Core.Path.{_≡_, ap, sym, _∙_}
-use Prim.Native.Nat.{suc, _+_, _-_, _<_}
+use mathlib.Core.Path.{_≡_, ap}
+use Prim.Native.Nat.{suc, _+_, _-_}
 use native.Mathlib.Omega.{arith}
 use mathlib.Core.List.{[], _∷_, _++_}
 use borrow.Author.Needs.{needs}
 use lib.ListN.{length}
 use Rattle.std.proofs.shelf.Results.{err-from-errBy}
 use Rattle.std.specs.Of.Vec.{vec-items, vec-len}
-use Rattle.script.specs.Calls.{sections-at}
-use Rattle.script.specs.Words.{after-word, left}
+use Rattle.script.specs.Words.{left}
 use Rattle.script.proofs.SectionTurns.{section-fails, section-shortens, section-turn, sections-done}
 use Rattle.script.proofs.reading.sections.Needs as need
 

@@ -2,7 +2,7 @@ use mathlib.Core.Path.{_≡_, ap, sym, _∙_}
 use Rattle.std.proofs.shelf.Results.{err-from-errBy}
 use borrow.Author.Needs.{needs}
 use Rattle.std.specs.Of.Vec.{vec-items}
-use Rattle.std.specs.declared.result.Result.the-variants.{Ok, Err}
+use Rattle.std.specs.declared.result.Result.the-variants.{Ok}
 use Rattle.script.specs.Words.{after-word, left}
 use Rattle.script.proofs.Cuts.{item-plain, item-quoted}
 use Rattle.script.proofs.Tellings.{tells-leaving}
