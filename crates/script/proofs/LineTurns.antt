@@ -14,12 +14,11 @@ use Rattle.std.proofs.shelf.Tests.{cases-bool, cond-true, cond-false}
 use Rattle.script.specs.Bytes.{has}
 use Rattle.script.specs.Draft.{Drafted, line-taken, start}
 use Rattle.script.specs.Lines.{after-line, in-front, line-at, lines, pieces, without-return}
-use Rattle.script.specs.Parsed.{Parses, closed, failure-at, go-on, lines-taken, mistaken, script-of}
+use Rattle.script.specs.Parsed.{Parses, closed, failure-at, go-on, lines-taken, script-of}
 use Rattle.script.specs.Told.{Tells}
 use Rattle.script.specs.declared.bytes.Class.the-variants.{OfLine}
 use Rattle.script.specs.declared.problems.Failure.{Failure}
 use Rattle.script.specs.declared.problems.Mistake.{Mistake}
-use Rattle.script.specs.declared.problems.Problem.{Problem}
 use Rattle.script.specs.declared.problems.Stop.{Stop}
 use Rattle.script.specs.declared.problems.Stop.the-variants.{Wrong, OutOfMemory}
 

@@ -9,11 +9,13 @@ use Rattle.script.specs.declared.steps.Step.{Step}
 use Rattle.script.specs.declared.steps.Verb.{Verb}
 use Rattle.script.specs.declared.steps.Verb.the-variants as verb
 
+-- the verb, the numbers in the order of the file, and the item's bytes
 pub record Asked : Type 0 where
   pub verb : Verb
   pub numbers : List ℕ
   pub item : List ℕ
 
+-- the parts put together
 abbrev pub asking : Verb → List ℕ → List ℕ → Asked
 asking v numbers item = record { verb = v; numbers = numbers; item = item }
 
@@ -33,6 +35,7 @@ asked (Replay section offset) = asking verb.Replay (section ∷ offset ∷ []) [
 asked Next = asking verb.Next [] []
 asked Finish = asking verb.Finish [] []
 
+-- the verb of a step
 abbrev pub verb-in : Call → Verb
 verb-in c = asked c .verb
 
@@ -42,8 +45,10 @@ pub record Turn : Type 0 where
   pub work : Option ℕ
   pub line : ℕ
 
+-- the parts put together
 abbrev pub turning : Asked → Option ℕ → ℕ → Turn
 turning asked work line = record { asked = asked; work = work; line = line }
 
+-- what a step of the code stands for
 abbrev pub turn : Step → Turn
 turn s = turning (asked (s .call)) (s .work) (s .line)

@@ -1,5 +1,5 @@
 -- The step that a line holds, from its first word and what follows it.
-use mathlib.Core.Bool.{Bool, true, false, cond, not, _||_}
+use mathlib.Core.Bool.{Bool, cond, not, _||_}
 use mathlib.Core.List.{List, [], _∷_}
 use Prim.Native.Nat.{ℕ, zero, suc}
 use lib.Chars.{codes}
@@ -21,19 +21,23 @@ use Rattle.script.specs.declared.steps.Verb.the-variants.{Open, InitAtMost, Cl
 abbrev pub Read : Type 0
 Read = Result (Asked × List ℕ) Problem
 
+-- a step with one number
 abbrev pub with-one : Verb → List ℕ → Result ℕ Problem → Read
 with-one v rest (Ok n) = Ok (asking v (n ∷ []) [], rest)
 with-one v rest (Err p) = Err p
 
+-- a step with two numbers
 abbrev pub with-two : Verb → List ℕ → Result (ℕ × ℕ) Problem → Read
 with-two v rest (Ok (m, n)) = Ok (asking v (m ∷ n ∷ []) [], rest)
 with-two v rest (Err p) = Err p
 
+-- an append, of a section and an item
 abbrev pub with-item : Result ℕ Problem → Result (List ℕ × List ℕ) Problem → Read
 with-item (Err p) item = Err p
 with-item (Ok n) (Err p) = Err p
 with-item (Ok n) (Ok (item, rest)) = Ok (asking Append (n ∷ []) item, rest)
 
+-- a section, and the item after it
 abbrev pub append-at : List ℕ → Read
 append-at bs = with-item (number-at bs) (item-at (after-word bs))
 
@@ -41,6 +45,7 @@ append-at bs = with-item (number-at bs) (item-at (after-word bs))
 abbrev pub more-sections : List ℕ → Bool
 more-sections bs = not (empty (word-at bs) || sameBytes (word-at bs) (codes "with"))
 
+-- one section before the others
 abbrev pub one-more : Result ℕ Problem → Result (List ℕ × List ℕ) Problem → Result (List ℕ × List ℕ) Problem
 one-more (Err p) others = Err p
 one-more (Ok n) (Err p) = Err p
@@ -55,10 +60,12 @@ sections-by (suc k) bs = cond (more-sections bs) (one-more (number-at bs) (secti
 abbrev pub sections-at : List ℕ → Result (List ℕ × List ℕ) Problem
 sections-at bs = sections-by (length bs) bs
 
+-- a sync of these sections
 abbrev pub with-sections : Result (List ℕ × List ℕ) Problem → Read
 with-sections (Ok (ns, rest)) = Ok (asking Sync ns [], rest)
 with-sections (Err p) = Err p
 
+-- all the sections that follow
 abbrev pub sync-at : List ℕ → Read
 sync-at bs = with-sections (sections-at bs)
 
@@ -78,10 +85,12 @@ call-at Replay bs = with-two Replay (after-word (after-word bs)) (pair-at bs)
 call-at Next bs = Ok (asking Next [] [], bs)
 call-at Finish bs = Ok (asking Finish [] [], bs)
 
+-- a word that names no verb is no step
 abbrev pub verb-then : Option Verb → List ℕ → Read
 verb-then None bs = Err UnknownWord
 verb-then (Some v) bs = call-at v bs
 
+-- a work buffer of this length
 abbrev pub lent : Result ℕ Problem → Result (Option ℕ) Problem
 lent (Ok n) = Ok (Some n)
 lent (Err p) = Err p
@@ -91,13 +100,16 @@ abbrev pub work-at : List ℕ → Result (Option ℕ) Problem
 work-at bs =
     cond (empty (word-at bs)) (Ok None) (cond (sameBytes (word-at bs) (codes "with")) (lent (last-number-at (after-word bs))) (Err WordTooMany))
 
+-- a step with its work buffer and its line
 abbrev pub with-work : ℕ → Asked → Result (Option ℕ) Problem → Result Turn Problem
 with-work line a (Ok work) = Ok (turning a work line)
 with-work line a (Err p) = Err p
 
+-- the work buffer stands after what the step asks for
 abbrev pub step-of : ℕ → Read → Result Turn Problem
 step-of line (Ok (a, rest)) = with-work line a (work-at rest)
 step-of line (Err p) = Err p
 
+-- the step of a line whose first word is w
 abbrev pub step-at : ℕ → List ℕ → List ℕ → Result Turn Problem
 step-at line w bs = step-of line (verb-then (verb-of w) bs)

@@ -1,5 +1,5 @@
 -- The number that decimal digits write, and what reading a number answers.
-use mathlib.Core.Bool.{Bool, true, false, cond, _&&_}
+use mathlib.Core.Bool.{Bool, cond, _&&_}
 use mathlib.Core.List.{List, [], _∷_}
 use Prim.Native.Nat.{ℕ, _+_, _-_, _*_, _^_}
 use lib.Dec.{eqb, ltb}
@@ -17,6 +17,7 @@ abbrev pub decimal-after : ℕ → List ℕ → ℕ
 decimal-after n [] = n
 decimal-after n (b ∷ bs) = decimal-after (n * 10 + (b - 48)) bs
 
+-- the number that digits write
 abbrev pub decimal : List ℕ → ℕ
 decimal bs = decimal-after 0 bs
 

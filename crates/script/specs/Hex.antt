@@ -15,11 +15,13 @@ abbrev pub hex-digit : ℕ → Option ℕ
 hex-digit b =
     cond (leb 48 b && leb b 57) (Some (b - 48)) (cond (leb 97 b && leb b 102) (Some (b - 97 + 10)) (cond (leb 65 b && leb b 70) (Some (b - 65 + 10)) None))
 
+-- two digits are one byte
 abbrev pub pair-of : Option ℕ → Option ℕ → Option ℕ
 pair-of None low = None
 pair-of (Some h) None = None
 pair-of (Some h) (Some l) = Some (h * 16 + l)
 
+-- the byte of two digits
 abbrev pub hex-byte : ℕ → ℕ → Option ℕ
 hex-byte high low = pair-of (hex-digit high) (hex-digit low)
 
@@ -29,6 +31,7 @@ before None rest = Err NotHex
 before (Some b) (Ok bs) = Ok (b ∷ bs)
 before (Some b) (Err p) = Err p
 
+-- the bytes of a word, or what is wrong with its first bad pair
 abbrev pub hex-of : List ℕ → Result (List ℕ) Problem
 hex-of [] = Ok []
 hex-of (a ∷ []) = Err OddDigits

@@ -14,6 +14,7 @@ use Rattle.script.specs.declared.problems.Stop.{Stop}
 use Rattle.script.specs.declared.problems.Stop.the-variants.{Wrong, OutOfMemory}
 use Rattle.script.specs.declared.steps.Script.{Script}
 
+-- the parts put together
 abbrev pub mistaken : ℕ → Problem → Mistake
 mistaken n p = record { line = n; problem = p }
 
@@ -27,10 +28,12 @@ abbrev pub lines-taken : Drafted → ℕ → List (List ℕ) → Result Drafted 
 lines-taken d n [] = Ok d
 lines-taken d n (l ∷ ls) = go-on (n + 1) (line-taken d (n + 1) l) (λ e. lines-taken e (n + 1) ls)
 
+-- the settings that are missing are filled in at the end
 abbrev pub closed : Result Drafted Mistake → Result Whole Mistake
 closed (Ok d) = Ok (finished d)
 closed (Err m) = Err m
 
+-- every line in its order, from the first
 abbrev pub script-of : List ℕ → Result Whole Mistake
 script-of text = closed (lines-taken start 0 (lines text))
 
@@ -40,6 +43,7 @@ Parses (Ok script) s = s ≡ Ok (whole script)
 Parses (Err (failure.Mistake m)) s = s ≡ Err m
 Parses (Err failure.Memory) s = Unit {0}
 
+-- the same failure, told with its line
 abbrev pub failure-at : ℕ → Stop → Failure
 failure-at n (Wrong p) = failure.Mistake (mistaken n p)
 failure-at n OutOfMemory = failure.Memory

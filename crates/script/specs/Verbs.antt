@@ -9,6 +9,7 @@ use Rattle.std.specs.shelf.Text.{sameBytes}
 use Rattle.script.specs.declared.steps.Verb.{Verb}
 use Rattle.script.specs.declared.steps.Verb.the-variants.{Open, InitAtMost, Close, Lose, Append, Sync, Get, Size, SectionsFrom, Prune, Replay, Next, Finish}
 
+-- the first word of a step in the file
 abbrev pub verb-word : Verb → List ℕ
 verb-word Open = codes "open"
 verb-word InitAtMost = codes "init_at_most"
@@ -24,6 +25,7 @@ verb-word Replay = codes "replay"
 verb-word Next = codes "next"
 verb-word Finish = codes "finish"
 
+-- all of them
 abbrev pub verbs : List Verb
 verbs = Open ∷ InitAtMost ∷ Close ∷ Lose ∷ Append ∷ Sync ∷ Get ∷ Size ∷ SectionsFrom ∷ Prune ∷ Replay ∷ Next ∷ Finish ∷ []
 
@@ -32,5 +34,6 @@ abbrev pub verb-among : List Verb → List ℕ → Option Verb
 verb-among [] w = None
 verb-among (v ∷ vs) w = cond (sameBytes w (verb-word v)) (Some v) (verb-among vs w)
 
+-- the verb that a word names
 abbrev pub verb-of : List ℕ → Option Verb
 verb-of w = verb-among verbs w

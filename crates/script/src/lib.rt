@@ -36,8 +36,6 @@ use problems::Stop;
 use settings::Draft;
 pub use steps::Call;
 pub use steps::CallDebug;
-pub use steps::CallEq;
-pub use steps::CallPartialEq;
 pub use steps::Kind;
 pub use steps::KindDebug;
 pub use steps::KindEq;
@@ -47,17 +45,7 @@ pub use steps::MediumDebug;
 pub use steps::MediumEq;
 pub use steps::MediumPartialEq;
 pub use steps::Script;
-pub use steps::ScriptDebug;
-pub use steps::ScriptEq;
-pub use steps::ScriptPartialEq;
 pub use steps::Step;
-pub use steps::StepDebug;
-pub use steps::StepEq;
-pub use steps::StepPartialEq;
-pub use steps::Verb;
-pub use steps::VerbDebug;
-pub use steps::VerbEq;
-pub use steps::VerbPartialEq;
 
 fn at_line(line: u64, stop: Stop) -> Failure
     ensures { λ r. ⌜ r ≡ failure-at line stop ⌝ }

@@ -106,7 +106,7 @@ pub impl<T: Drop> From<Refused<T>> for Failure as FailureFromRefused {
 }
 
 // Why a line is not read, told by the functions that do not know its number.
-#[derive(Clone, Copy, PartialEq, Eq, Debug)]
+#[derive(Clone, Copy)]
 pub enum Stop {
     Wrong(Problem),
     OutOfMemory,

@@ -17,7 +17,7 @@ pub enum Medium {
 }
 
 // The names of the steps.
-#[derive(Clone, Copy, PartialEq, Eq, Debug)]
+#[derive(Clone, Copy)]
 pub enum Verb {
     Open,
     InitAtMost,
@@ -87,7 +87,7 @@ impl Verb {
     }
 }
 
-#[derive(PartialEq, Eq, Debug, Drop)]
+#[derive(Debug, Drop)]
 pub enum Call {
     Open,
     InitAtMost { section: u64, end: u64 },
@@ -105,7 +105,7 @@ pub enum Call {
 }
 
 impl Call {
-    pub fn verb(&self) -> Verb
+    fn verb(&self) -> Verb
         ensures { λ r. ⌜ r ≡ verb-in (now (self .entry)) ⌝ }
     {
         match self {
@@ -134,14 +134,14 @@ impl Call {
 }
 
 // One step, the length of the work buffer that it alone is lent, and the line that it stands on.
-#[derive(PartialEq, Eq, Debug, Drop)]
+#[derive(Drop)]
 pub struct Step {
     pub call: Call,
     pub work: Option<u64>,
     pub line: u64,
 }
 
-#[derive(PartialEq, Eq, Debug, Drop)]
+#[derive(Drop)]
 pub struct Script {
     pub kind: Kind,
     pub medium: Medium,

@@ -1,14 +1,15 @@
 use mathlib.Core.Path.{_≡_, ap, sym, _∙_}
 use mathlib.Core.List.{[]}
-use Prim.Native.Nat.{_<_}
+use Prim.Native.Nat.{_+_, _<_}
 use native.Mathlib.Omega.{arith}
+use borrow.Author.Needs.{needs}
 use lib.ListN.{length}
 use Rattle.std.proofs.shelf.Lists.{nil-from-length}
 use Rattle.std.proofs.shelf.Tests.{eqb-false, eqb-true}
 use Rattle.std.specs.declared.result.Result.the-variants.{Ok}
 use Rattle.script.specs.Draft.{drafted}
 use Rattle.script.specs.Lines.{lines}
-use Rattle.script.specs.Parsed.{closed, lines-taken}
+use Rattle.script.specs.Parsed.{closed, failure-at, lines-taken}
 use Rattle.script.proofs.LineTurns.{line-goes, line-shortens, line-stops}
 use Rattle.script.proofs.parse.Needs as need
 
@@ -16,7 +17,8 @@ pub returns-in-Err : need.returns-in-Err
 returns-in-Err c =
     let rest = c .loop-rest .rest .now in
     let none = eqb-false (length rest) 0 (sym (c .loop-rest-test .ensures tt)) in
-    line-stops (λ _. drafted (c .take .last .self)) (c .args .text .now) (drafted (c .loop-rest .draft)) (c .loop-rest .number) (c .in-Err .stop) _ (c .cut-line .result .0 .now) rest (omega (arith, none)) (c .cut-line .ensures .line) (c .at-line .ensures) (c .in-Err .ensures tt) (c .loop-rest .inv .1)
+    let told : c .at-line .result ≡ failure-at (c .loop-rest .number + 1) (c .in-Err .stop) = search needs in
+    line-stops (λ _. drafted (c .take .last .self)) (c .args .text .now) (drafted (c .loop-rest .draft)) (c .loop-rest .number) (c .in-Err .stop) _ (c .cut-line .result .0 .now) rest (omega (arith, none)) (c .cut-line .ensures .line) told (c .in-Err .ensures tt) (c .loop-rest .inv .1)
 
 pub loop-rest-less : need.loop-rest-less
 loop-rest-less c =

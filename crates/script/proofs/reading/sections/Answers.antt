@@ -1,11 +1,12 @@
-use mathlib.Core.Path.{_≡_, ap, sym, _∙_}
-use Prim.Native.Nat.{suc, _+_, _-_, _<_}
+use mathlib.Core.Path.{_≡_, ap}
+use Prim.Native.Nat.{suc, _+_, _-_}
 use native.Mathlib.Omega.{arith}
+use mathlib.Core.List.{[], _∷_, _++_}
+use borrow.Author.Needs.{needs}
 use lib.ListN.{length}
 use Rattle.std.proofs.shelf.Results.{err-from-errBy}
 use Rattle.std.specs.Of.Vec.{vec-items, vec-len}
-use Rattle.script.specs.Calls.{sections-at}
-use Rattle.script.specs.Words.{after-word, left}
+use Rattle.script.specs.Words.{left}
 use Rattle.script.proofs.SectionTurns.{section-fails, section-shortens, section-turn, sections-done}
 use Rattle.script.proofs.reading.sections.Needs as need
 
@@ -30,9 +31,10 @@ loop-line-again c =
     let m = vec-len (c .push .last .self) in
     let more = c .loop-line-test .ensures tt in
     let one : m ≡ n + 1 = c .in-Continue-push .ensures tt .len in
+    let pushed : vec-items (c .push .last .self) ≡ vec-items (c .loop-line .sections) ++ c .in-Continue-section .section ∷ [] = search needs in
     let fuel : all - n ≡ suc (all - m) = omega (arith, section-shortens bs more) in (
       omega (arith, section-shortens bs more, ap length (c .number .ensures .after)),
-      section-turn _ bs (left (c .number .last .self)) (vec-items (c .loop-line .sections)) _ (all - n) (all - m) (c .in-Continue-section .section) more fuel (c .in-Continue-section .ensures tt .value) (c .number .ensures .after) (c .in-Continue-push .ensures tt .items) (c .loop-line .inv .1),
+      section-turn _ bs (left (c .number .last .self)) (vec-items (c .loop-line .sections)) (vec-items (c .push .last .self)) (all - n) (all - m) (c .in-Continue-section .section) more fuel (c .in-Continue-section .ensures tt .value) (c .number .ensures .after) pushed (c .loop-line .inv .1),
     )
 
 pub returns : need.returns
