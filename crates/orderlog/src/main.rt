@@ -1,7 +1,7 @@
 // The program: works the history files that it is given and prints what each step answered and, at the end, the read-out.
+use script::Call;
 use script::FailureDisplay;
 use script::Script;
-use script::Verb;
 use std::env;
 use std::error::AnyError;
 use std::fs;
@@ -39,10 +39,9 @@ fn read_script(rt: &LibcRuntime, name: &str) -> Result<Script, AnyError> {
 // This build works the steps open, append and close; a file with any other is refused before its first step.
 fn check_steps(rt: &LibcRuntime, name: &str, script: &Script) -> Result<(), AnyError> {
     for step in script.steps.iter() {
-        let verb = step.call.verb();
-        if !matches!(verb, Verb::Open | Verb::Append | Verb::Close) {
+        if !matches!(&step.call, Call::Open | Call::Append { .. } | Call::Close) {
             let line = step.line;
-            let word = verb.word();
+            let word = step.call.word();
             eprintln!(
                 rt,
                 "{name}: line {line}: the step {word} is not worked by this build"
