@@ -1,0 +1,165 @@
+// Appends and reads on the storages, in batches; the best of several rounds counts, since a machine is only ever slowed down.
+use std::error::AnyError;
+use std::time::Instant;
+use storage::IndexedStorage;
+use storage::Slots;
+use storage::SlotsIndexed;
+use storage::Storage;
+
+const BATCH: u64 = 1024;
+
+const ROUNDS: u64 = 64;
+
+// Nanoseconds for a hundred calls.
+#[derive(Clone, Copy)]
+struct Times {
+    append: u64,
+    read: u64,
+}
+
+// Brings sections 0 up to `sections` to `base` bytes each, with zeros.
+fn fill<S: Storage>(storage: &mut S, sections: u64, base: u64) {
+    let block = [0u8; 256];
+    for section in 0..sections {
+        storage.truncate(section, base);
+        for _ in 0..(base / 256) {
+            if storage.size(section) >= base {
+                break;
+            }
+            let _ = storage.append(section, &block);
+        }
+    }
+}
+
+fn hundredth(nanos: u128) -> u64 {
+    (nanos.saturating_mul(100) / u128::from(BATCH)).min(u128::from(u64::MAX)) as u64
+}
+
+fn append_batch<S: Storage>(
+    rt: &LibcRuntime,
+    storage: &mut S,
+    sections: u64,
+    record: &[u8],
+) -> Result<u64, AnyError> {
+    let start = Instant::now(rt)?;
+    for i in 0..BATCH {
+        let _ = storage.append(i % sections.max(1), record);
+    }
+    Ok(hundredth(start.elapsed(rt)?.as_nanos()))
+}
+
+fn read_batch<S: Storage>(
+    rt: &LibcRuntime,
+    storage: &S,
+    sections: u64,
+    offset: u64,
+    buffer: &mut [u8],
+) -> Result<u64, AnyError> {
+    let start = Instant::now(rt)?;
+    for i in 0..BATCH {
+        let _ = storage.read(i % sections.max(1), offset, buffer);
+    }
+    Ok(hundredth(start.elapsed(rt)?.as_nanos()))
+}
+
+fn measure<S: Storage>(
+    rt: &LibcRuntime,
+    storage: &mut S,
+    sections: u64,
+    base: u64,
+    buffer: &mut [u8],
+) -> Result<Times, AnyError> {
+    let mut best = Times {
+        append: u64::MAX,
+        read: u64::MAX,
+    };
+    for _ in 0..ROUNDS {
+        fill(storage, sections, base);
+        best.append = best.append
+            .min(append_batch(rt, storage, sections, buffer)?);
+        best.read = best.read
+            .min(read_batch(rt, storage, sections, base, buffer)?);
+    }
+    Ok(best)
+}
+
+// Prints a line for each filling, and how the full one compares with the empty one.
+fn compare<S: Storage>(
+    rt: &LibcRuntime,
+    name: &str,
+    storage: &mut S,
+    sections: u64,
+    full: u64,
+    buffer: &mut [u8],
+) -> Result<Times, AnyError> {
+    let size = buffer.len();
+    let low = measure(rt, storage, sections, 0, buffer)?;
+    let high = measure(rt, storage, sections, full, buffer)?;
+    for section in 0..sections {
+        storage.remove(section);
+    }
+    print_row(rt, name, sections, size, "near empty", low)?;
+    print_row(rt, name, sections, size, "near full", high)?;
+    print_ratio(rt, "full to empty", high, low)?;
+    Ok(low)
+}
+
+fn print_row(
+    rt: &LibcRuntime,
+    name: &str,
+    sections: u64,
+    size: usize,
+    filling: &str,
+    times: Times,
+) -> Result<(), AnyError> {
+    let append = times.append / 100;
+    let append_rest = times.append % 100;
+    let read = times.read / 100;
+    let read_rest = times.read % 100;
+    println!(
+        rt,
+        "{name} {sections} sections, {size} bytes, {filling}: append {append}.{append_rest:02} ns, read {read}.{read_rest:02} ns"
+    )?;
+    Ok(())
+}
+
+fn percent(a: u64, b: u64) -> u64 {
+    a.saturating_mul(100) / b.max(1)
+}
+
+fn print_ratio(rt: &LibcRuntime, what: &str, a: Times, b: Times) -> Result<(), AnyError> {
+    let append = percent(a.append, b.append);
+    let read = percent(a.read, b.read);
+    println!(
+        rt,
+        "    {what}: append {append} percent, read {read} percent"
+    )?;
+    Ok(())
+}
+
+fn measure_storage<S: Storage>(
+    rt: &LibcRuntime,
+    name: &str,
+    storage: &mut S,
+    full: u64,
+) -> Result<(), AnyError> {
+    let mut small = [7u8; 5];
+    let mut large = [7u8; 200];
+    let one = compare(rt, name, storage, 1, full, &mut small)?;
+    let many = compare(rt, name, storage, 64, full, &mut small)?;
+    print_ratio(rt, "64 sections to 1", many, one)?;
+    let one = compare(rt, name, storage, 1, full, &mut large)?;
+    let many = compare(rt, name, storage, 64, full, &mut large)?;
+    print_ratio(rt, "64 sections to 1", many, one)
+}
+
+pub fn measure_all(rt: &LibcRuntime) -> Result<(), AnyError> {
+    let heap = rt.alloc();
+    // Not a power of two, so that the slots do not all fall on the same lines of the cache.
+    let area = vec![in heap; 0u8; 4_000_000]?;
+    match Slots::new(heap, area, 64) {
+        Ok(mut slots) => measure_storage(rt, "slots", &mut slots, 49_664)?,
+        Err(_) => return Err("there is not enough memory".into()),
+    }
+    Ok(())
+}
