@@ -2,6 +2,8 @@
 use std::error::AnyError;
 use std::time::Instant;
 use storage::IndexedStorage;
+use storage::Pages;
+use storage::PagesIndexed;
 use storage::Slots;
 use storage::SlotsIndexed;
 use storage::Storage;
@@ -159,6 +161,11 @@ pub fn measure_all(rt: &LibcRuntime) -> Result<(), AnyError> {
     let area = vec![in heap; 0u8; 4_000_000]?;
     match Slots::new(heap, area, 64) {
         Ok(mut slots) => measure_storage(rt, "slots", &mut slots, 49_664)?,
+        Err(_) => return Err("there is not enough memory".into()),
+    }
+    let area = vec![in heap; 0u8; 1_048_576]?;
+    match Pages::new(heap, area) {
+        Ok(mut pages) => measure_storage(rt, "pages", &mut pages, 15_104)?,
         Err(_) => return Err("there is not enough memory".into()),
     }
     Ok(())

@@ -2,6 +2,8 @@
 use super::*;
 use std::alloc::Global;
 use storage::IndexedStorage;
+use storage::Pages;
+use storage::PagesIndexed;
 use storage::Slots;
 use storage::SlotsIndexed;
 
@@ -16,6 +18,51 @@ fn slots(heap: Global, area: usize, wish: u64) -> Result<Slots, Fail> {
 #[test]
 fn calls_on_slots(rt: LibcRuntime) -> Result<(), Fail> {
     boundary_calls(&mut slots(rt.alloc(), 4096, 4)?)
+}
+
+fn pages(heap: Global, area: usize) -> Result<Pages, Fail> {
+    let area = vec![in heap; 0xaau8; area]?;
+    match Pages::new(heap, area) {
+        Ok(pages) => Ok(pages),
+        Err(_) => Err(Fail::new("no memory")),
+    }
+}
+
+#[test]
+fn calls_on_pages(rt: LibcRuntime) -> Result<(), Fail> {
+    boundary_calls(&mut pages(rt.alloc(), 4096)?)
+}
+
+#[test]
+fn room_in_pages(rt: LibcRuntime) -> Result<(), Fail> {
+    let heap = rt.alloc();
+    let mut storage = pages(heap, 3 * 256 + 255)?;
+    check_eq(storage.most_sections(), 64)?;
+    check_eq(storage.most_bytes(), 0)?;
+    let block = [7u8; 257];
+    check_eq(storage.append(1, &block), Ok(0))?;
+    check_eq(
+        storage.append(2, &block),
+        Err(Fault::NoRoom {
+            section: 2,
+            size: 0,
+        }),
+    )?;
+    check_eq(storage.append(2, b"abc"), Ok(0))?;
+    check_eq(storage.append(3, b""), Ok(0))?;
+    check_eq(
+        storage.append(3, b"x"),
+        Err(Fault::NoRoom {
+            section: 3,
+            size: 0,
+        }),
+    )?;
+    storage.truncate(1, 256);
+    check_eq(storage.append(3, b"x"), Ok(0))?;
+    let mut buffer = [0u8; 3];
+    check_eq(storage.read(2, 0, &mut buffer), Ok(()))?;
+    check_eq(buffer, *b"abc")?;
+    check_eq(pages(heap, 65 * 256)?.most_bytes(), 256)
 }
 
 #[test]
