@@ -23,10 +23,24 @@ struct Times {
     read: u64,
 }
 
-// Brings sections 0 up to `sections` to `base` bytes each, with zeros.
-fn fill<S: Storage>(storage: &mut S, sections: u64, base: u64) {
+// Which sections stand: so many, numbered from 0 in equal steps.
+#[derive(Clone, Copy)]
+struct Sections {
+    count: u64,
+    step: u64,
+}
+
+impl Sections {
+    fn number(self, i: u64) -> u64 {
+        (i % self.count.max(1)).wrapping_mul(self.step)
+    }
+}
+
+// Brings each section to `base` bytes, with zeros.
+fn fill<S: Storage>(storage: &mut S, sections: Sections, base: u64) {
     let block = [0u8; 256];
-    for section in 0..sections {
+    for i in 0..sections.count {
+        let section = sections.number(i);
         for _ in 0..(base / 256) {
             if storage.size(section) >= base {
                 break;
@@ -44,13 +58,13 @@ fn hundredth(nanos: u128) -> u64 {
 fn append_batch<S: Storage>(
     rt: &LibcRuntime,
     storage: &mut S,
-    sections: u64,
+    sections: Sections,
     record: &[u8],
 ) -> Result<u64, AnyError> {
     let start = Instant::now(rt)?;
     let mut taken = 0u64;
     for i in 0..BATCH {
-        if storage.append(i % sections.max(1), record).is_ok() {
+        if storage.append(sections.number(i), record).is_ok() {
             taken = taken.saturating_add(1);
         }
     }
@@ -64,14 +78,14 @@ fn append_batch<S: Storage>(
 fn read_batch<S: Storage>(
     rt: &LibcRuntime,
     storage: &S,
-    sections: u64,
+    sections: Sections,
     offset: u64,
     buffer: &mut [u8],
 ) -> Result<u64, AnyError> {
     let start = Instant::now(rt)?;
     let mut taken = 0u64;
     for i in 0..BATCH {
-        if storage.read(i % sections.max(1), offset, buffer).is_ok() {
+        if storage.read(sections.number(i), offset, buffer).is_ok() {
             taken = taken.saturating_add(1);
         }
     }
@@ -91,7 +105,7 @@ const NEVER: Times = Times {
 fn measure<S: Storage>(
     rt: &LibcRuntime,
     storage: &mut S,
-    sections: u64,
+    sections: Sections,
     base: u64,
     buffer: &mut [u8],
     before: Times,
@@ -112,7 +126,7 @@ fn compare<S: Storage>(
     rt: &LibcRuntime,
     name: &str,
     storage: &mut S,
-    sections: u64,
+    sections: Sections,
     full: u64,
     buffer: &mut [u8],
 ) -> Result<Times, AnyError> {
@@ -123,8 +137,8 @@ fn compare<S: Storage>(
         low = measure(rt, storage, sections, 0, buffer, low)?;
         high = measure(rt, storage, sections, full, buffer, high)?;
     }
-    for section in 0..sections {
-        storage.remove(section);
+    for i in 0..sections.count {
+        storage.remove(sections.number(i));
     }
     print_row(rt, name, sections, size, "near empty", low)?;
     print_row(rt, name, sections, size, "near full", high)?;
@@ -135,18 +149,20 @@ fn compare<S: Storage>(
 fn print_row(
     rt: &LibcRuntime,
     name: &str,
-    sections: u64,
+    sections: Sections,
     size: usize,
     filling: &str,
     times: Times,
 ) -> Result<(), AnyError> {
+    let count = sections.count;
+    let step = sections.step;
     let append = times.append / 100;
     let append_rest = times.append % 100;
     let read = times.read / 100;
     let read_rest = times.read % 100;
     println!(
         rt,
-        "{name} {sections} sections, {size} bytes, {filling}: append {append}.{append_rest:02} ns, read {read}.{read_rest:02} ns"
+        "{name}, sections {count} in steps of {step}, {size} bytes, {filling}: append {append}.{append_rest:02} ns, read {read}.{read_rest:02} ns"
     )?;
     Ok(())
 }
@@ -165,6 +181,42 @@ fn print_ratio(rt: &LibcRuntime, what: &str, a: Times, b: Times) -> Result<(), A
     Ok(())
 }
 
+fn measure_records<S: Storage>(
+    rt: &LibcRuntime,
+    name: &str,
+    storage: &mut S,
+    full_one: u64,
+    full_many: u64,
+    record: &mut [u8],
+) -> Result<(), AnyError> {
+    let one = compare(
+        rt,
+        name,
+        storage,
+        Sections { count: 1, step: 1 },
+        full_one,
+        record,
+    )?;
+    let close = compare(
+        rt,
+        name,
+        storage,
+        Sections { count: 64, step: 1 },
+        full_many,
+        record,
+    )?;
+    print_ratio(rt, "64 sections to 1", close, one)?;
+    let spaced = compare(
+        rt,
+        name,
+        storage,
+        Sections { count: 64, step: 3 },
+        full_many,
+        record,
+    )?;
+    print_ratio(rt, "64 sections to 1", spaced, one)
+}
+
 // `full_one` and `full_many` are how many bytes a section has near full, with 1 section and with 64.
 fn measure_storage<S: Storage>(
     rt: &LibcRuntime,
@@ -173,14 +225,8 @@ fn measure_storage<S: Storage>(
     full_one: u64,
     full_many: u64,
 ) -> Result<(), AnyError> {
-    let mut small = [7u8; 5];
-    let mut large = [7u8; 200];
-    let one = compare(rt, name, storage, 1, full_one, &mut small)?;
-    let many = compare(rt, name, storage, 64, full_many, &mut small)?;
-    print_ratio(rt, "64 sections to 1", many, one)?;
-    let one = compare(rt, name, storage, 1, full_one, &mut large)?;
-    let many = compare(rt, name, storage, 64, full_many, &mut large)?;
-    print_ratio(rt, "64 sections to 1", many, one)
+    measure_records(rt, name, storage, full_one, full_many, &mut [7u8; 5])?;
+    measure_records(rt, name, storage, full_one, full_many, &mut [7u8; 200])
 }
 
 pub fn measure_all(rt: &LibcRuntime) -> Result<(), AnyError> {
