@@ -1,5 +1,7 @@
 // How long one append and one read take, on each storage: with 1 and with 64 sections, near empty and near full. Run by hand
 // with the word `measure`; without it, as in the gate, it only says so.
+#![tactic(auto)]
+
 use std::env;
 
 mod storages;

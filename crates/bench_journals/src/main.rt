@@ -1,5 +1,7 @@
 // How long appends, syncs, gets and whole replays of a journal take, with few and with many items. Run by hand with the word
 // `measure`; without it, as in the gate, it only says so.
+#![tactic(auto)]
+
 use std::env;
 
 mod journals;

@@ -1,4 +1,6 @@
 // Histories: lists of calls on one log, worked in their order.
+#![tactic(auto)]
+
 mod lending;
 mod log;
 mod steps;

@@ -1,4 +1,6 @@
 // The program: works the history files that it is given and prints what each step answered and, at the end, the read-out.
+#![tactic(auto)]
+
 use anyhow::anyhow;
 use script::{Call, Script};
 use std::io::Read;

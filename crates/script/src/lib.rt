@@ -1,5 +1,7 @@
 // Reads a history file: settings first, then one step to a line. A file may hold any bytes; what is no history is refused
 // with the number of its first wrong line and what is wrong there.
+#![tactic(auto)]
+
 ghost use Rattle.script.specs.Parsed.{Parses, failure_at, script_of};
 ghost use Rattle.std.specs.Prelude.{◌≡◌};
 

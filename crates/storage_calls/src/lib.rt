@@ -1,4 +1,6 @@
 // Calls at the boundaries of every storage, run: what a storage of any kind answers, step by step.
+#![tactic(auto)]
+
 use fault::Fault;
 use std::process::Abort;
 use std::test::Fail;
