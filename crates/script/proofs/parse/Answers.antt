@@ -11,22 +11,22 @@ pub returns-in-Err : goal.returns-in-Err
 returns-in-Err c =
     let rest = c.loop-rest.rest.now in
     let none = eqb-false (length rest) 0 (sym c.loop-rest-test.ensures) in
-    let told : c.at-line.result ≡ failure_at (c.loop-rest.number + 1) c.in-Err.stop = search rules in
-    line_stops (λ _. drafted c.take.new.self) c.args.text.now (drafted c.loop-rest.draft) c.loop-rest.number c.in-Err.stop _ c.cut-line.result.0.now rest (omega (arith, none)) c.cut-line.ensures.line told c.in-Err.ensures c.loop-rest.invariant.1
+    let told : c.at_line.result ≡ failure_at (c.loop-rest.number + 1) c.in-Err.stop = search rules in
+    line_stops (λ _. drafted c.take.new.self) c.args.text.now (drafted c.loop-rest.draft) c.loop-rest.number c.in-Err.stop _ c.cut_line.result.0.now rest (omega (arith, none)) c.cut_line.ensures.line told c.in-Err.ensures c.loop-rest.invariant.1
 
 pub loop-rest-smaller : goal.loop-rest-smaller
 loop-rest-smaller c =
     let rest = c.loop-rest.rest.now in
     let none = eqb-false (length rest) 0 (sym c.loop-rest-test.ensures) in
-    omega (arith, line_shortens rest (omega (arith, none)), ap length c.cut-line.ensures.rest)
+    omega (arith, line_shortens rest (omega (arith, none)), ap length c.cut_line.ensures.rest)
 
 pub loop-rest-preserved : goal.loop-rest-preserved
 loop-rest-preserved c =
     let rest = c.loop-rest.rest.now in
     let none = eqb-false (length rest) 0 (sym c.loop-rest-test.ensures) in
     let some : 0 < length rest = omega (arith, none) in (
-      omega (arith, line_shortens rest some, ap length c.cut-line.ensures.rest),
-      line_goes _ (drafted c.loop-rest.draft) (drafted c.take.new.self) c.loop-rest.number c.cut-line.result.0.now rest c.cut-line.result.1.now some c.cut-line.ensures.line c.cut-line.ensures.rest c.in-default.ensures c.loop-rest.invariant.1,
+      omega (arith, line_shortens rest some, ap length c.cut_line.ensures.rest),
+      line_goes _ (drafted c.loop-rest.draft) (drafted c.take.new.self) c.loop-rest.number c.cut_line.result.0.now rest c.cut_line.result.1.now some c.cut_line.ensures.line c.cut_line.ensures.rest c.in_default.ensures c.loop-rest.invariant.1,
     )
 
 pub returns : goal.returns

@@ -4,12 +4,12 @@ use Rattle.script.proofs.Lents.{work_lent}
 use Rattle.script.specs.Words.{left}
 use Rattle.script.proofs.reading.work.Goals as goal
 
-pub returns-in-err-length : goal.returns-in-err-length
-returns-in-err-length c =
-    let p = err_from_is_err_and c.from-residual.result c.from-residual.ensures.1 in
+pub returns-in_err-length : goal.returns-in_err-length
+returns-in_err-length c =
+    let p = err_from_is_err_and c.from_residual.result c.from_residual.ensures.1 in
     rw (p.1, p.2)
-    (work_lent (left c.args.line.now) c.word-word.result.now (left c.word-word.new.self) (Err c.in-err-length.field-0.0) c.word-word.ensures.value c.word-word.ensures.after c.if-is-empty.ensures c.if-not-is.ensures c.in-err-length.ensures)
+    (work_lent (left c.args.line.now) c.word-word.result.now (left c.word-word.new.self) (Err c.in_err-length.field-0.0) c.word-word.ensures.value c.word-word.ensures.after c.if-is_empty.ensures c.if-not-is.ensures c.in_err-length.ensures)
 
 pub returns : goal.returns
 returns c =
-    work_lent (left c.args.line.now) c.word-word.result.now (left c.word-word.new.self) _ c.word-word.ensures.value c.word-word.ensures.after c.if-is-empty.ensures c.if-not-is.ensures c.in-ok-length.ensures
+    work_lent (left c.args.line.now) c.word-word.result.now (left c.word-word.new.self) _ c.word-word.ensures.value c.word-word.ensures.after c.if-is_empty.ensures c.if-not-is.ensures c.in_ok-length.ensures
