@@ -4,4 +4,4 @@ use Rattle.script.proofs.words.is.Goals as goal
 use Rattle.std.proofs.lemmas.Bool.Decides.{Decides-eqb}
 
 pub returns : goal.returns
-returns c = search (rules, bytes_eq-Decides, slice_eq-Decides Decides-eqb _ _ _ c.eq.ensures)
+returns c = search (rules, bytes_eq-Decides, slice_eq-Decides, Decides-eqb)

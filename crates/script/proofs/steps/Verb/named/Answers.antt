@@ -7,7 +7,7 @@ use Rattle.script.proofs.steps.Verb.named.Goals as goal
 
 other : (c : goal.In_default) (v : Verb) → c.args.text.now ≡ verb_word v → ⊥
 other c Open e = c.in_default.not-open e
-other c InitAtMost e = c.in_default.not-init-at-most e
+other c InitAtMost e = c.in_default.not-init_at_most e
 other c Close e = c.in_default.not-close e
 other c Lose e = c.in_default.not-lose e
 other c Append e = c.in_default.not-append e
