@@ -6,4 +6,4 @@ use Rattle.history.proofs.lending.get.Goals as goal
 
 pub returns : goal.returns
 returns g c =
-    lent_fetched c.args.work (c.min-lent.result - 0) c.args.buffer.now (omega (arith, c.min-lent.ensures)) (λ w. get_call g.row.V-Item.decoded g.row.V-Item.greatest (stands g.S.Storage.standing c.args.journal.now) c.args.section c.args.offset w c.args.item.now) c.get.result c.get.new.work c.get.new.item c.get.ensures
+    lent_fetched c.args.work (c.min-lent.result - 0) c.args.buffer.now (omega (arith, c.min-lent.ensures)) (λ w. get_call g.V.Item.decoded g.V.Item.greatest (stands g.S.Storage.standing c.args.journal.now) c.args.section c.args.offset w c.args.item.now) c.get.result c.get.new.work c.get.new.item c.get.ensures

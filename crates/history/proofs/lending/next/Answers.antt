@@ -5,4 +5,4 @@ use Rattle.history.proofs.lending.next.Goals as goal
 
 pub returns : goal.returns
 returns g c =
-    lent_nexted c.args.work (c.min-lent.result - 0) c.args.buffer.now (omega (arith, c.min-lent.ensures)) (λ w. next_call g.row.V-Item.decoded g.row.V-Item.greatest (reading g.S.Storage.standing c.args.replay.now) w c.args.item.now) c.next.result (reading g.S.Storage.standing c.next.new.self) c.next.new.work c.next.new.item c.next.ensures
+    lent_nexted c.args.work (c.min-lent.result - 0) c.args.buffer.now (omega (arith, c.min-lent.ensures)) (λ w. next_call g.V.Item.decoded g.V.Item.greatest (reading g.S.Storage.standing c.args.replay.now) w c.args.item.now) c.next.result (reading g.S.Storage.standing c.next.new.self) c.next.new.work c.next.new.item c.next.ensures

@@ -5,9 +5,9 @@ use Rattle.history.proofs.working.is_ready.Goals as goal
 pub returns-then-is-none : goal.returns-then-is-none
 returns-then-is-none g c =
     let new = new_none (g.S.Storage.standing c.args.storage.now).sections (ap is_some (sym c.next-section.ensures) ∙ c.if-is-none.ensures) in
-    ap (λ k. leb (k + 5) (length c.args.buffer.now)) c.greatest-len.ensures ∙ ap (λ b. b && leb (g.row.V-Item.greatest + 5) (length c.args.buffer.now)) (sym new)
+    ap (λ k. leb (k + 5) (length c.args.buffer.now)) c.greatest-len.ensures ∙ ap (λ b. b && leb (g.V.Item.greatest + 5) (length c.args.buffer.now)) (sym new)
 
 pub returns-else-is-none : goal.returns-else-is-none
 returns-else-is-none g c =
     let used = new_some (g.S.Storage.standing c.args.storage.now).sections (ap is_some (sym c.next-section.ensures) ∙ c.if-is-none.ensures) in
-    c.if-is-none.false ∙ ap (λ b. b && leb (g.row.V-Item.greatest + 5) (length c.args.buffer.now)) (sym used)
+    c.if-is-none.false ∙ ap (λ b. b && leb (g.V.Item.greatest + 5) (length c.args.buffer.now)) (sym used)

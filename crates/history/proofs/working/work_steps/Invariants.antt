@@ -6,4 +6,4 @@ use Rattle.history.proofs.working.work_steps.Given as goal
 abbrev pub invariant-loop-place : goal.invariant-loop-place
 invariant-loop-place g l =
     (l.worked ≡ l.place-index)
-    × Noting g.row.V-Item.bytes g.row.V-Item.decoded g.row.V-Item.greatest (state_of g.S.Storage.standing l.initial.log) l.steps l.initial.buffer l.initial.notes l.place-index (state_of g.S.Storage.standing l.log) l.buffer l.notes
+    × Noting g.V.Item.bytes g.V.Item.decoded g.V.Item.greatest (state_of g.S.Storage.standing l.initial.log) l.steps l.initial.buffer l.initial.notes l.place-index (state_of g.S.Storage.standing l.log) l.buffer l.notes
