@@ -13,7 +13,7 @@ fn slots(heap: Global, area: usize, wish: u64) -> Result<Slots, Fail> {
 
 #[test]
 fn calls_on_slots(rt: HostRuntime) -> Result<(), Fail> {
-    boundary_calls(&rt, &mut slots(rt.alloc(), 4096, 4)?)
+    boundary_calls(&mut slots(rt.alloc(), 4096, 4)?)
 }
 
 fn pages(heap: Global, area: usize) -> Result<Pages, Fail> {
@@ -26,7 +26,7 @@ fn pages(heap: Global, area: usize) -> Result<Pages, Fail> {
 
 #[test]
 fn calls_on_pages(rt: HostRuntime) -> Result<(), Fail> {
-    boundary_calls(&rt, &mut pages(rt.alloc(), 4096)?)
+    boundary_calls(&mut pages(rt.alloc(), 4096)?)
 }
 
 #[test]
