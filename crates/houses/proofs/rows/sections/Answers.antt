@@ -4,8 +4,8 @@ use Rattle.houses.specs.Rows.{sections_behind}
 use Rattle.houses.proofs.Counting.{count_row}
 use Rattle.houses.proofs.rows.sections.Goals as goal
 
-pub overflow-add-sections : goal.overflow-add-sections
-overflow-add-sections g c = omega (arith, c.loop-row.invariant.1, c.begun-sections.ensures.few)
+pub overflow_add-sections : goal.overflow_add-sections
+overflow_add-sections g c = omega (arith, c.loop-row.invariant.1, c.begun-sections.ensures.few)
 
 pub loop-row-preserved : goal.loop-row-preserved
 loop-row-preserved g c = (
