@@ -38,7 +38,7 @@ fn bytes_that_are_no_mark(rt: HostRuntime) {
 #[test]
 fn lines(rt: HostRuntime) -> Result<(), Fail> {
     let line = ImprintLine::decode(b" Anna & Bo ~")?;
-    assert!(rt; line.text() == b" Anna & Bo ~");
+    assert!(rt; line.text() == b" Anna & Bo ~".as_slice());
     assert_eq!(rt; line.encoded_len(), 12);
     let mut buffer = [0xaau8; 13];
     assert_eq!(rt; line.encode(&mut buffer), Some(12));
