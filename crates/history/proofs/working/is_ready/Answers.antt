@@ -1,4 +1,4 @@
-use Rattle.std.proofs.Common.{◌≡◌, ◌+◌, ◌&&◌, eqb, leb, length, is_some, sym, ap, ◌∙◌}
+use Rattle.std.proofs.Common.{◌+◌, ◌&&◌, leb, length, is_some, sym, ap, ◌∙◌}
 use Rattle.history.proofs.Noting.{new_none, new_some}
 use Rattle.history.proofs.working.is_ready.Goals as goal
 
