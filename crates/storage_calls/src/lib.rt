@@ -1,12 +1,17 @@
 // Calls at the boundaries of every storage, run: what a storage of any kind answers, step by step.
 #![tactic(auto)]
 
+ghost use Rattle.std.specs.Prelude.{◌≡◌, is_ok};
+
 use fault::Fault;
 use std::fmt::Debug;
 use std::test::Fail;
 use storage::Storage;
 
-fn check_eq<T: PartialEq + Debug + Drop>(found: T, wanted: T) -> Result<(), Fail> {
+// An `Err` that tells both where they differ.
+fn check_eq<T: PartialEq + Debug + Drop>(found: T, wanted: T) -> Result<(), Fail>
+    ensures { is_ok result ≡ T.eq found wanted }
+{
     if found == wanted {
         Ok(())
     } else {
