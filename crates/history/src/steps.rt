@@ -1,5 +1,8 @@
 // The steps of a history, and what is noted of each.
+ghost use Rattle.std.specs.Prelude.{◌≡◌};
+
 use fault::Fault;
+use journal::{Handed, Placed};
 
 // One call, with its numbers and its item as bytes. A call that takes a work buffer is lent one of `work` bytes.
 #[derive(Drop)]
@@ -50,28 +53,29 @@ pub enum Step {
 // The full answer of a step.
 #[derive(Drop)]
 pub enum Note<V> {
-    // A place for which there was no step.
-    Blank,
     // The step was out of turn, or an append whose bytes are no item; nothing changed.
     PassedOver,
     Refused(Fault),
     Done,
-    Appended {
-        offset: u64,
-        size: usize,
-    },
-    Got {
-        size: usize,
-        item: Option<V>,
-    },
+    Appended(Placed),
+    Got { size: usize, item: Option<V> },
     Sized(u64),
     Found(Option<u64>),
     Pruned(bool),
-    Handed {
-        section: u64,
-        offset: u64,
-        size: usize,
-        item: Option<V>,
-    },
+    Handed { handed: Handed, item: Option<V> },
     Drained,
+}
+
+// An answer that is no more than accepted or refused.
+impl<V> From<Result<(), Fault>> for Note<V> {
+    ghost use Rattle.history.specs.Turns.{plain};
+
+    ghost from_gives = { λ x r. r ≡ plain x };
+
+    fn from(answer: Result<(), Fault>) -> Note<V> {
+        match answer {
+            Ok(()) => Note::Done,
+            Err(refusal) => Note::Refused(refusal),
+        }
+    }
 }

@@ -11,23 +11,22 @@ use storage::Storage;
 
 // Works the steps as far as there are places for what is noted of them.
 fn work_steps<V: Item + Drop, S: Storage>(
-    log: Log<V, S>,
+    mut log: Log<V, S>,
     steps: &[Step],
     buffer: &mut [u8],
-    notes: &mut [Note<V>],
+    notes: &mut [Option<Note<V>>],
 ) -> Log<V, S>
     ensures { Worked V.Item.bytes V.Item.decoded V.Item.greatest (state_of S.Storage.standing (log)) steps.now buffer.old notes.old (state_of S.Storage.standing result) buffer.new notes.new }
 {
-    let mut log = log;
-    let mut worked = 0;
+    let mut rest = steps;
     for place in notes.iter_mut() {
-        if worked >= steps.len() {
+        let Some((step, later)) = rest.split_first() else {
             break;
-        }
-        let Advance { log: next, note } = work_step(log, &steps[worked], buffer);
+        };
+        let Advance { log: next, note } = work_step(log, step, buffer);
         log = next;
-        *place = note;
-        worked += 1;
+        *place = Some(note);
+        rest = later;
     }
     log
 }
@@ -45,7 +44,7 @@ pub fn work<V: Item + Drop, S: Storage>(
     storage: S,
     steps: &[Step],
     buffer: &mut [u8],
-    notes: &mut [Note<V>],
+    notes: &mut [Option<Note<V>>],
 ) -> Result<Journal<V, S>, S>
     ensures { Works V.Item.bytes V.Item.decoded V.Item.greatest S.Storage.standing storage steps.now buffer.old notes.old result buffer.new notes.new }
 {

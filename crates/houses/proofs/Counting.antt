@@ -5,5 +5,5 @@ use Rattle.journal.specs.declared.row.Row.{Row}
 use Rattle.houses.specs.Rows.{begun, sections_behind}
 
 module _ {V : Type 0} where
-  pub count_row : (rows : List (Row V)) (i : ℕ) (r : Row V) (last : Option ℕ) → i < length rows → r ≡ get_or rows i r → sections_behind last (drop i rows) ≡ begun last r.section + sections_behind (Some r.section) (drop (i + 1) rows)
-  count_row rows i r last lt e = at_drop_more (sections_behind last) rows i r lt ∙ ap (λ q. begun last q.section + sections_behind (Some q.section) (drop (i + 1) rows)) (sym e)
+  pub count_row : (rows : List (Row V)) (i : ℕ) (r : Row V) (last : Option ℕ) → i < length rows → r ≡ get_or rows i r → sections_behind last (drop i rows) ≡ begun last r.handed.section + sections_behind (Some r.handed.section) (drop (i + 1) rows)
+  count_row rows i r last lt e = at_drop_more (sections_behind last) rows i r lt ∙ ap (λ q. begun last q.handed.section + sections_behind (Some q.handed.section) (drop (i + 1) rows)) (sym e)

@@ -10,4 +10,4 @@ begun None n = 1
 -- how many rows begin a section
 abbrev pub sections_behind : {V : Type 0} → Option ℕ → List (Row V) → ℕ
 sections_behind last [] = 0
-sections_behind last (r ∷ rows) = begun last r.section + sections_behind (Some r.section) rows
+sections_behind last (r ∷ rows) = begun last r.handed.section + sections_behind (Some r.handed.section) rows

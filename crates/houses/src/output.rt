@@ -4,7 +4,7 @@ use anyhow::anyhow;
 use fault::Fault;
 use history::Note;
 use item::Item;
-use journal::Row;
+use journal::{Handed, Placed, Row};
 use std::alloc::{AllocError, Global};
 
 // The item's bytes in pairs of digits, `-` for none.
@@ -12,8 +12,7 @@ fn hex<V: Item>(heap: Global, item: &V) -> Result<String, AllocError> {
     let bytes = bytes_of(heap, item)?;
     let mut text = String::new(heap);
     for byte in bytes.iter() {
-        let pair = format!(in heap; "{byte:02x}")?;
-        text.push_str(pair.as_str())?;
+        write!(text, "{byte:02x}")?;
     }
     if bytes.is_empty() {
         text.push_str("-")?;
@@ -23,22 +22,16 @@ fn hex<V: Item>(heap: Global, item: &V) -> Result<String, AllocError> {
 
 fn refusal(heap: Global, fault: Fault) -> Result<String, AllocError> {
     let row = fault.row();
-    let number = row.number;
-    let layer = row.layer;
-    let section = row.section;
-    let place = row.place;
-    let reason = row.reason;
-    format!(in heap; "refused {number} {layer} section {section} place {place} reason {reason}")
+    format!(in heap; "refused {row}")
 }
 
 // Where an item stands, and the item.
-fn standing<V: Item>(
-    heap: Global,
-    section: u64,
-    offset: u64,
-    size: usize,
-    item: &V,
-) -> Result<String, AllocError> {
+fn standing<V: Item>(heap: Global, handed: Handed, item: &V) -> Result<String, AllocError> {
+    let Handed {
+        section,
+        offset,
+        size,
+    } = handed;
     let item = hex(heap, item)?;
     format!(in heap; "section {section} offset {offset} size {size} item {item}")
 }
@@ -56,7 +49,9 @@ fn answer<V: Item>(heap: Global, note: &Note<V>) -> Result<Option<String>, Alloc
         Note::PassedOver => String::from_str(heap, "passed over")?,
         Note::Refused(fault) => refusal(heap, *fault)?,
         Note::Done => String::from_str(heap, "ok")?,
-        Note::Appended { offset, size } => format!(in heap; "ok offset {offset} size {size}")?,
+        Note::Appended(Placed { offset, size }) => format!(in heap;
+            "ok offset {offset} size {size}"
+        )?,
         Note::Got {
             size,
             item: Some(item),
@@ -69,16 +64,14 @@ fn answer<V: Item>(heap: Global, note: &Note<V>) -> Result<Option<String>, Alloc
         Note::Pruned(true) => String::from_str(heap, "ok removed")?,
         Note::Pruned(false) => String::from_str(heap, "ok nothing")?,
         Note::Handed {
-            section,
-            offset,
-            size,
+            handed,
             item: Some(item),
         } => {
-            let row = standing(heap, *section, *offset, *size, item)?;
+            let row = standing(heap, *handed, item)?;
             format!(in heap; "ok {row}")?
         }
         Note::Drained => String::from_str(heap, "ok none")?,
-        Note::Blank | Note::Got { .. } | Note::Handed { .. } => return Ok(None),
+        Note::Got { .. } | Note::Handed { .. } => return Ok(None),
     };
     Ok(Some(text))
 }
@@ -86,12 +79,14 @@ fn answer<V: Item>(heap: Global, note: &Note<V>) -> Result<Option<String>, Alloc
 pub(crate) fn print_notes<V: Item>(
     rt: &HostRuntime,
     words: &[String],
-    notes: &[Note<V>],
+    notes: &[Option<Note<V>>],
 ) -> anyhow::Result<()> {
-    let mut number: u64 = 0;
-    for (word, note) in words.iter().zip(notes.iter()) {
-        number = number.saturating_add(1);
-        let Some(answer) = answer(rt.alloc(), note)? else {
+    for ((word, note), number) in words.iter().zip(notes.iter()).zip(1u64..u64::MAX) {
+        let answer = match note {
+            Some(note) => answer(rt.alloc(), note)?,
+            None => None,
+        };
+        let Some(answer) = answer else {
             return Err(anyhow!("a step has no answer"));
         };
         println!(rt; "{number} {word} {answer}")?;
@@ -102,7 +97,7 @@ pub(crate) fn print_notes<V: Item>(
 pub(crate) fn print_rows<V: Item>(rt: &HostRuntime, rows: &[Row<V>]) -> anyhow::Result<()> {
     rt.println("read-out")?;
     for row in rows {
-        let text = standing(rt.alloc(), row.section, row.offset, row.size, &row.item)?;
+        let text = standing(rt.alloc(), row.handed, &row.item)?;
         rt.println(text.as_str())?;
     }
     let items = rows.len();

@@ -1,4 +1,4 @@
-// The rows of read-outs: their items' bytes, how many sections they are of, and whether two read-outs are equal.
+// The rows of read-outs: their items' bytes, and how many sections they are of.
 ghost use Rattle.std.specs.Prelude.{◌≡◌, ◌≤◌, None};
 ghost use Rattle.houses.specs.Rows.{begun, sections_behind};
 
@@ -31,34 +31,9 @@ pub(crate) fn sections<V>(rows: &[Row<V>]) -> usize
     let mut sections: usize = 0;
     let mut last = None;
     for row in rows {
-        sections += begun(last, row.section);
-        last = Some(row.section);
+        let section = row.handed.section;
+        sections += begun(last, section);
+        last = Some(section);
     }
     sections
-}
-
-fn same_row<V: Item>(heap: Global, one: &Row<V>, other: &Row<V>) -> Result<bool, AllocError> {
-    let place = one.section == other.section && one.offset == other.offset;
-    if !place || one.size != other.size {
-        return Ok(false);
-    }
-    let bytes = bytes_of(heap, &one.item)?;
-    Ok(bytes == bytes_of(heap, &other.item)?)
-}
-
-// Whether two read-outs are equal: row by row the same section, offset, size and item.
-pub(crate) fn same_rows<V: Item>(
-    heap: Global,
-    one: &[Row<V>],
-    other: &[Row<V>],
-) -> Result<bool, AllocError> {
-    if one.len() != other.len() {
-        return Ok(false);
-    }
-    for (row, beside) in one.iter().zip(other.iter()) {
-        if !same_row(heap, row, beside)? {
-            return Ok(false);
-        }
-    }
-    Ok(true)
 }

@@ -54,7 +54,7 @@ fn step_of(call: Call, work: u64) -> Step
 pub struct Plan<V> {
     pub words: Vec<String>,
     pub steps: Vec<Step>,
-    pub notes: Vec<Note<V>>,
+    pub notes: Vec<Option<Note<V>>>,
 }
 
 pub(crate) fn planned<V: Drop>(
@@ -76,7 +76,7 @@ pub(crate) fn planned<V: Drop>(
         } = line;
         plan.words.push(String::from_str(heap, call.word())?)?;
         plan.steps.push(step_of(call, work_len(work, file, most)))?;
-        plan.notes.push(Note::Blank)?;
+        plan.notes.push(None)?;
     }
     Ok(plan)
 }

@@ -1,6 +1,6 @@
 // What is told of files that are refused, and when two read-outs are equal.
 use super::*;
-use journal::Row;
+use journal::{Handed, Row};
 use script::Failure;
 use std::alloc::Global;
 use std::process::Abort;
@@ -59,9 +59,11 @@ fn row(section: u64, offset: u64, text: &[u8]) -> Result<Row<ImprintLine>, Fail>
     let size = text.len();
     match ImprintLine::decode(text) {
         Ok(item) => Ok(Row {
-            section,
-            offset,
-            size,
+            handed: Handed {
+                section,
+                offset,
+                size,
+            },
             item,
         }),
         Err(_) => Err(Fail::new("no line")),
@@ -69,21 +71,21 @@ fn row(section: u64, offset: u64, text: &[u8]) -> Result<Row<ImprintLine>, Fail>
 }
 
 // Whether a read-out of Anna at the front of section 3 equals another of one row.
-fn as_anna(heap: Global, section: u64, offset: u64, text: &[u8]) -> Result<bool, Fail> {
+fn as_anna(section: u64, offset: u64, text: &[u8]) -> Result<bool, Fail> {
     let one = [row(3, 0, b"Anna")?];
     let other = [row(section, offset, text)?];
-    Ok(rows::same_rows(heap, &one, &other)?)
+    Ok(one == other)
 }
 
 #[test]
 fn equal_read_outs(rt: HostRuntime) -> Result<(), Fail> {
-    let heap = rt.alloc();
-    assert!(rt; as_anna(heap, 3, 0, b"Anna")?);
-    assert!(rt; !as_anna(heap, 4, 0, b"Anna")?);
-    assert!(rt; !as_anna(heap, 3, 5, b"Anna")?);
-    assert!(rt; !as_anna(heap, 3, 0, b"Annas")?);
-    assert!(rt; !as_anna(heap, 3, 0, b"Anne")?);
+    assert!(rt; as_anna(3, 0, b"Anna")?);
+    assert!(rt; !as_anna(4, 0, b"Anna")?);
+    assert!(rt; !as_anna(3, 5, b"Anna")?);
+    assert!(rt; !as_anna(3, 0, b"Annas")?);
+    assert!(rt; !as_anna(3, 0, b"Anne")?);
     let one = [row(3, 0, b"Anna")?];
-    assert!(rt; !rows::same_rows(heap, &one, &[])?);
+    let none: &[Row<ImprintLine>] = &[];
+    assert!(rt; one.as_slice() != none);
     Ok(())
 }
