@@ -50,43 +50,25 @@ fn hundredth(nanos: u128) -> u64 {
     (nanos.saturating_mul(100) / u128::from(BATCH)).min(u128::from(u64::MAX)) as u64
 }
 
-fn append_batch<S: Storage>(
+// A batch of calls, each on its section; every one must be taken.
+fn batch<F: FnMut(u64) -> bool>(
     rt: &HostRuntime,
-    storage: &mut S,
     sections: Sections,
-    record: &[u8],
-) -> anyhow::Result<u64> {
+    mut call: F,
+    refused: &str,
+) -> anyhow::Result<u64>
+    requires { F.IsAlwaysCallable call }
+{
     let start = Instant::now(rt)?;
     let mut taken = 0u64;
     for i in 0..BATCH {
-        if storage.append(sections.number(i), record).is_ok() {
+        if call(sections.number(i)) {
             taken = taken.saturating_add(1);
         }
     }
     let nanos = start.elapsed(rt)?.as_nanos();
     if taken < BATCH {
-        return Err(anyhow!("an append was refused"));
-    }
-    Ok(hundredth(nanos))
-}
-
-fn read_batch<S: Storage>(
-    rt: &HostRuntime,
-    storage: &S,
-    sections: Sections,
-    offset: u64,
-    buffer: &mut [u8],
-) -> anyhow::Result<u64> {
-    let start = Instant::now(rt)?;
-    let mut taken = 0u64;
-    for i in 0..BATCH {
-        if storage.read(sections.number(i), offset, buffer).is_ok() {
-            taken = taken.saturating_add(1);
-        }
-    }
-    let nanos = start.elapsed(rt)?.as_nanos();
-    if taken < BATCH {
-        return Err(anyhow!("a read was refused"));
+        return Err(anyhow!("{refused} was refused"));
     }
     Ok(hundredth(nanos))
 }
@@ -108,12 +90,20 @@ fn measure<S: Storage>(
     let mut best = before;
     for _ in 0..ROUNDS {
         fill(storage, sections, base);
-        best.append = best
-            .append
-            .min(append_batch(rt, storage, sections, buffer)?);
-        best.read = best
-            .read
-            .min(read_batch(rt, storage, sections, base, buffer)?);
+        let append = batch(
+            rt,
+            sections,
+            |section| storage.append(section, buffer).is_ok(),
+            "an append",
+        )?;
+        let read = batch(
+            rt,
+            sections,
+            |section| storage.read(section, base, buffer).is_ok(),
+            "a read",
+        )?;
+        best.append = best.append.min(append);
+        best.read = best.read.min(read);
     }
     Ok(best)
 }
@@ -222,20 +212,19 @@ fn measure_storage<S: Storage>(
     measure_records(rt, name, storage, full_one, full_many, &mut [7u8; 200])
 }
 
+fn no_memory() -> anyhow::Error {
+    anyhow!("there is not enough memory")
+}
+
 pub fn measure_all(rt: &HostRuntime) -> anyhow::Result<()> {
     let heap = rt.alloc();
     // Not a power of two, so that the slots do not all fall on the same lines of the cache.
     let area = vec![in heap; 0u8; 4_000_000]?;
-    match Slots::new(heap, area, 64) {
-        // A slot has 62,500 bytes; a batch of 64 records of 200 bytes still fits behind.
-        Ok(mut slots) => measure_storage(rt, "slots", &mut slots, 49_664, 62_208)?,
-        Err(_) => return Err(anyhow!("there is not enough memory")),
-    }
+    let mut slots = Slots::new(heap, area, 64).map_err(|_| no_memory())?;
+    // A slot has 62,500 bytes; a batch of 64 records of 200 bytes still fits behind.
+    measure_storage(rt, "slots", &mut slots, 49_664, 62_208)?;
     let area = vec![in heap; 0u8; 1_048_576]?;
-    match Pages::new(heap, area) {
-        // 4,045 of the 4,096 pages with 1 section, 63 pages in each of 64; a batch takes the rest at most.
-        Ok(mut pages) => measure_storage(rt, "pages", &mut pages, 1_035_520, 16_128)?,
-        Err(_) => return Err(anyhow!("there is not enough memory")),
-    }
-    Ok(())
+    let mut pages = Pages::new(heap, area).map_err(|_| no_memory())?;
+    // 4,045 of the 4,096 pages with 1 section, 63 pages in each of 64; a batch takes the rest at most.
+    measure_storage(rt, "pages", &mut pages, 1_035_520, 16_128)
 }

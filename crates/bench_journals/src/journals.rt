@@ -1,7 +1,7 @@
 // Appends, syncs, gets and whole replays of a journal of date marks, few and many items in one section, on both storages. The
 // best of some rounds counts. Every call must be accepted.
 use anyhow::anyhow;
-use item::{DateMark, Item};
+use item::{DateMark, DayKind};
 use journal::Journal;
 use std::time::Instant;
 use storage::{Pages, Slots, Storage};
@@ -31,73 +31,25 @@ fn each_hundred(nanos: u128, items: u64) -> u64 {
     (nanos.saturating_mul(100) / u128::from(items.max(1))).min(u128::from(u64::MAX)) as u64
 }
 
-fn append_all<S: Storage>(
+// Calls, one for each item; every one must be accepted.
+fn each<F: FnMut(u64) -> bool>(
     rt: &HostRuntime,
-    journal: &mut Journal<DateMark, S>,
     items: u64,
-    work: &mut [u8],
-) -> anyhow::Result<u64> {
-    let Ok(mark) = DateMark::decode(&[3, 9, 1, 1, 4]) else {
-        return Err(anyhow!("no mark"));
-    };
+    mut call: F,
+    refused: &str,
+) -> anyhow::Result<u64>
+    requires { F.IsAlwaysCallable call }
+{
     let start = Instant::now(rt)?;
     let mut taken = 0u64;
-    for _ in 0..items {
-        if journal.append(0, &mark, work).is_ok() {
-            taken = taken.saturating_add(1);
-        }
-    }
-    let nanos = start.elapsed(rt)?.as_nanos();
-    if taken < items {
-        return Err(anyhow!("an append was refused"));
-    }
-    Ok(each_hundred(nanos, items))
-}
-
-// Every append is settled at once; a sync of what is settled would have nothing to do.
-fn sync_all<S: Storage>(
-    rt: &HostRuntime,
-    journal: &mut Journal<DateMark, S>,
-    items: u64,
-    work: &mut [u8],
-) -> anyhow::Result<u64> {
-    let Ok(mark) = DateMark::decode(&[3, 9, 1, 1, 4]) else {
-        return Err(anyhow!("no mark"));
-    };
-    let start = Instant::now(rt)?;
-    let mut taken = 0u64;
-    for _ in 0..items {
-        if journal.append(0, &mark, work).is_ok() && journal.sync(&[0]).is_ok() {
-            taken = taken.saturating_add(1);
-        }
-    }
-    let nanos = start.elapsed(rt)?.as_nanos();
-    if taken < items {
-        return Err(anyhow!("an append or a sync was refused"));
-    }
-    Ok(each_hundred(nanos, items))
-}
-
-fn get_all<S: Storage>(
-    rt: &HostRuntime,
-    journal: &Journal<DateMark, S>,
-    items: u64,
-    work: &mut [u8],
-) -> anyhow::Result<u64> {
-    let start = Instant::now(rt)?;
-    let mut taken = 0u64;
-    let mut item = None;
     for i in 0..items {
-        if journal
-            .get(0, i.saturating_mul(FRAME), work, &mut item)
-            .is_ok()
-        {
+        if call(i) {
             taken = taken.saturating_add(1);
         }
     }
     let nanos = start.elapsed(rt)?.as_nanos();
     if taken < items {
-        return Err(anyhow!("a get was refused"));
+        return Err(anyhow!("{refused} was refused"));
     }
     Ok(each_hundred(nanos, items))
 }
@@ -134,14 +86,36 @@ fn round<S: Storage + Drop>(
     items: u64,
     best: Costs,
 ) -> anyhow::Result<(S, Costs)> {
+    let Ok(mark) = DateMark::new(3, 9, DayKind::Birthday, 260) else {
+        return Err(anyhow!("no mark"));
+    };
     let mut buffer = [0u8; 10];
     let mut journal = Journal::<DateMark, S>::init(storage);
-    let sync = sync_all(rt, &mut journal, items, &mut buffer)?;
+    // Every append is settled at once; a sync of what is settled would have nothing to do.
+    let sync = each(
+        rt,
+        items,
+        |_| journal.append(0, &mark, &mut buffer).is_ok() && journal.sync(&[0]).is_ok(),
+        "an append or a sync",
+    )?;
     let mut storage = journal.close();
     storage.remove(0);
     let mut journal = Journal::<DateMark, S>::init(storage);
-    let append = append_all(rt, &mut journal, items, &mut buffer)?;
-    let get = get_all(rt, &journal, items, &mut buffer)?;
+    let append = each(
+        rt,
+        items,
+        |_| journal.append(0, &mark, &mut buffer).is_ok(),
+        "an append",
+    )?;
+    let mut item = None;
+    let get = each(
+        rt,
+        items,
+        |i| journal
+            .get(0, i.saturating_mul(FRAME), &mut buffer, &mut item)
+            .is_ok(),
+        "a get",
+    )?;
     let (mut storage, replay) = replay_all(rt, journal.close(), items, &mut buffer)?;
     storage.remove(0);
     let costs = Costs {
@@ -186,9 +160,8 @@ fn print_call(
 fn measure_storage<S: Storage + Drop>(
     rt: &HostRuntime,
     name: &str,
-    storage: S,
+    mut storage: S,
 ) -> anyhow::Result<()> {
-    let mut storage = storage;
     let mut few = NEVER;
     let mut some = NEVER;
     let mut many = NEVER;
@@ -205,13 +178,9 @@ fn measure_storage<S: Storage + Drop>(
 pub(crate) fn measure_all(rt: &HostRuntime) -> anyhow::Result<()> {
     let heap = rt.alloc();
     let area = vec![in heap; 0u8; 4_194_304]?;
-    match Slots::new(heap, area, 1) {
-        Ok(slots) => measure_storage(rt, "slots", slots)?,
-        Err(_) => return Err(anyhow!("no memory for slots")),
-    }
+    let slots = Slots::new(heap, area, 1).map_err(|_| anyhow!("no memory for slots"))?;
+    measure_storage(rt, "slots", slots)?;
     let area = vec![in heap; 0u8; 1_048_576]?;
-    match Pages::new(heap, area) {
-        Ok(pages) => measure_storage(rt, "pages", pages),
-        Err(_) => Err(anyhow!("no memory for pages")),
-    }
+    let pages = Pages::new(heap, area).map_err(|_| anyhow!("no memory for pages"))?;
+    measure_storage(rt, "pages", pages)
 }

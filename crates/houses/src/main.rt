@@ -27,7 +27,11 @@ fn work_one(rt: &HostRuntime, file: File) -> anyhow::Result<()> {
 }
 
 // Two files of one kind: each under its name, and then whether their read-outs are equal.
-fn work_both<V: Item + PartialEq + Drop>(rt: &HostRuntime, one: File, other: File) -> anyhow::Result<()> {
+fn work_both<V: Item + PartialEq + Drop>(
+    rt: &HostRuntime,
+    one: File,
+    other: File,
+) -> anyhow::Result<()> {
     let File { name, script } = one;
     println!(rt; "== {name}")?;
     let rows = working::work::<V>(rt, script)?;
