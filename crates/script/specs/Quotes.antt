@@ -2,21 +2,20 @@
 use Rattle.std.specs.Prelude.{ℕ, ◌+◌, cond, List, length, take, drop, Ok, Err, Result, nat_lt}
 use Rattle.std.specs.Borrow.{Bor}
 use Rattle.std.specs.List.{prefix_len}
-use Rattle.script.specs.Bytes.{has}
-use Rattle.script.specs.declared.bytes.Class.TheVariants.{OfQuote, OfWord, Printable}
+use Rattle.script.specs.Bytes.{is_printable, of_quote, of_word}
 use Rattle.script.specs.declared.problems.Problem.{Problem}
 use Rattle.script.specs.declared.problems.Problem.TheVariants.{QuoteNotClosed, Unprintable, GluedToQuote}
 
 -- how many bytes stand before the closing quote, or all of them where there is none
 abbrev pub inside : List ℕ → ℕ
-inside bs = prefix_len (has OfQuote) bs
+inside bs = prefix_len of_quote bs
 
 -- the text and the rest of a line whose opening quote has been cut off
 abbrev pub quoted_of : List ℕ → Result (List ℕ × List ℕ) Problem
 quoted_of bs =
     cond (nat_lt (inside bs) (length bs))
-    (cond (nat_lt (prefix_len (has Printable) (take (inside bs) bs)) (inside bs)) (Err Unprintable)
-    (cond (nat_lt 0 (prefix_len (has OfWord) (drop (inside bs + 1) bs))) (Err GluedToQuote) (Ok (take (inside bs) bs, drop (inside bs + 1) bs))))
+    (cond (nat_lt (prefix_len is_printable (take (inside bs) bs)) (inside bs)) (Err Unprintable)
+    (cond (nat_lt 0 (prefix_len of_word (drop (inside bs + 1) bs))) (Err GluedToQuote) (Ok (take (inside bs) bs, drop (inside bs + 1) bs))))
     (Err QuoteNotClosed)
 
 -- what a pair of slices holds

@@ -2,11 +2,10 @@
 use Rattle.std.specs.Prelude.{ℕ, Bool, false, cond, List, [], ◌∷◌, length, take, drop, Ok, Err, codes, Result, ◌==◌}
 use Rattle.std.specs.List.{prefix_len}
 use Rattle.std.specs.Str.{bytes_eq}
-use Rattle.script.specs.Bytes.{has}
+use Rattle.script.specs.Bytes.{is_blank, of_word}
 use Rattle.script.specs.Decimal.{number_of}
 use Rattle.script.specs.Hex.{hex_of}
 use Rattle.script.specs.Quotes.{quoted_of}
-use Rattle.script.specs.declared.bytes.Class.TheVariants.{Blank, OfWord}
 use Rattle.script.specs.declared.problems.Problem.{Problem}
 use Rattle.script.specs.declared.problems.Problem.TheVariants.{NumberMissing, ItemMissing, WordTooMany}
 use Rattle.script.specs.declared.words.Line.{Line}
@@ -17,15 +16,15 @@ left line = line.rest.now
 
 -- without the blanks and tabs at the front
 abbrev pub skip : List ℕ → List ℕ
-skip bs = drop (prefix_len (has Blank) bs) bs
+skip bs = drop (prefix_len is_blank bs) bs
 
 -- the longest run without a blank, a tab or `#`
 abbrev pub word_at : List ℕ → List ℕ
-word_at bs = take (prefix_len (has OfWord) (skip bs)) (skip bs)
+word_at bs = take (prefix_len of_word (skip bs)) (skip bs)
 
 -- what follows that word
 abbrev pub after_word : List ℕ → List ℕ
-after_word bs = drop (prefix_len (has OfWord) (skip bs)) (skip bs)
+after_word bs = drop (prefix_len of_word (skip bs)) (skip bs)
 
 -- there is nothing
 abbrev pub empty : List ℕ → Bool

@@ -4,7 +4,7 @@ ghost use Rattle.script.specs.Hex.{hex_byte, hex_digit, hex_of};
 ghost use Rattle.script.specs.Quotes.{parts, quoted_of};
 ghost use Rattle.script.specs.Told.{Tells, told};
 
-use crate::bytes::{Class, run};
+use crate::bytes::{is_printable, of_quote, of_word, run};
 use crate::problems::{Problem, Stop};
 use std::alloc::Global;
 
@@ -54,16 +54,16 @@ pub fn from_hex(heap: Global, word: &[u8]) -> Result<Vec<u8>, Stop>
 pub fn quoted<'a>(bytes: &'a [u8]) -> Result<(&'a [u8], &'a [u8]), Problem>
     ensures { told parts result ≡ quoted_of bytes.now }
 {
-    let end = run(bytes, Class::OfQuote);
+    let end = run(bytes, of_quote);
     if end == bytes.len() {
         return Err(Problem::QuoteNotClosed);
     }
     let text = &bytes[0..end];
     let after = &bytes[end + 1..];
-    if run(text, Class::Printable) < text.len() {
+    if run(text, is_printable) < text.len() {
         return Err(Problem::Unprintable);
     }
-    if run(after, Class::OfWord) > 0 {
+    if run(after, of_word) > 0 {
         return Err(Problem::GluedToQuote);
     }
     Ok((text, after))

@@ -2,7 +2,7 @@
 ghost use Rattle.std.specs.Prelude.{◌≡◌, ◌+◌, drop};
 ghost use Rattle.script.specs.Lines.{after_line, line_at, without_return};
 
-use crate::bytes::{Class, run};
+use crate::bytes::{of_line, run};
 
 fn trimmed(line: &[u8]) -> &[u8]
     ensures { result.now ≡ without_return line.now }
@@ -33,6 +33,6 @@ pub fn cut_line(text: &[u8]) -> (&[u8], &[u8])
     ensures line { result.0.now ≡ line_at text.now }
     ensures rest { result.1.now ≡ after_line text.now }
 {
-    let end = run(text, Class::OfLine);
+    let end = run(text, of_line);
     (trimmed(&text[0..end]), beyond(text, end))
 }

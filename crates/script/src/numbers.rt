@@ -3,13 +3,13 @@ ghost use Rattle.std.specs.Prelude.{◌≡◌, ◌^◌, ◌<◌};
 ghost use Rattle.std.specs.Option.{SomeIff};
 ghost use Rattle.script.specs.Decimal.{decimal, number_of, numeral};
 
-use crate::bytes::{Class, run};
+use crate::bytes::{is_digit, run};
 use crate::problems::Problem;
 
 fn is_numeral(word: &[u8]) -> bool
     ensures { result ≡ numeral word.now }
 {
-    !word.is_empty() && run(word, Class::Digit) == word.len()
+    !word.is_empty() && run(word, is_digit) == word.len()
 }
 
 // A byte below `0` counts as none here, and `number` lets no such byte in.

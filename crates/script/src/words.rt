@@ -4,7 +4,7 @@ ghost use Rattle.std.specs.Str.{bytes_eq};
 ghost use Rattle.script.specs.Told.{Tells};
 ghost use Rattle.script.specs.Words.{after_word, ended, item_at, last_number_at, last_pair_at, left, number_at, pair_at, plain_of, quote_first, skip, word_at};
 
-use crate::bytes::{Class, run};
+use crate::bytes::{is_blank, of_word, run};
 use crate::items::{from_hex, quoted};
 use crate::numbers::number;
 use crate::problems::{Problem, Stop};
@@ -25,7 +25,7 @@ pub fn is(word: &[u8], text: &str) -> bool
 fn without_blanks(bytes: &[u8]) -> &[u8]
     ensures { result.now ≡ skip bytes.now }
 {
-    &bytes[run(bytes, Class::Blank)..]
+    &bytes[run(bytes, is_blank)..]
 }
 
 fn opens_quote(bytes: &[u8]) -> bool
@@ -58,7 +58,7 @@ impl<'a> Line<'a> {
         ensures after { left self.new ≡ after_word (left self.old) }
     {
         let tail = without_blanks(self.rest);
-        let (word, rest) = tail.split_at(run(tail, Class::OfWord));
+        let (word, rest) = tail.split_at(run(tail, of_word));
         self.rest = rest;
         word
     }
