@@ -2,10 +2,10 @@
 use Rattle.std.specs.Prelude.{ℕ, zero, suc, Bool, cond, not, ◌||◌, List, [], ◌∷◌, length, Some, None, Ok, Err, codes, Option, Result}
 use Rattle.std.specs.Str.{bytes_eq}
 use Rattle.script.specs.Asked.{Asked, asking, Turn, turning}
-use Rattle.script.specs.Verbs.{verb_of}
+use Rattle.script.specs.Verbs.{verb_named}
 use Rattle.script.specs.Words.{after_word, empty, item_at, last_number_at, number_at, pair_at, word_at}
 use Rattle.script.specs.declared.problems.Problem.{Problem}
-use Rattle.script.specs.declared.problems.Problem.TheVariants.{UnknownWord, WordTooMany}
+use Rattle.script.specs.declared.problems.Problem.TheVariants.{WordTooMany}
 use Rattle.script.specs.declared.steps.Verb.{Verb}
 use Rattle.script.specs.declared.steps.Verb.TheVariants.{Open, InitAtMost, Close, Lose, Append, Sync, Get, Size, SectionsFrom, Prune, Replay, Next, Finish}
 
@@ -78,9 +78,9 @@ call_at Next bs = Ok (asking Next [] [], bs)
 call_at Finish bs = Ok (asking Finish [] [], bs)
 
 -- a word that names no verb is no step
-abbrev pub verb_then : Option Verb → List ℕ → Read
-verb_then None bs = Err UnknownWord
-verb_then (Some v) bs = call_at v bs
+abbrev pub verb_then : Result Verb Problem → List ℕ → Read
+verb_then (Ok v) bs = call_at v bs
+verb_then (Err p) bs = Err p
 
 -- a work buffer of this length
 abbrev pub lent : Result ℕ Problem → Result (Option ℕ) Problem
@@ -104,4 +104,4 @@ step_of line (Err p) = Err p
 
 -- the step of a line whose first word is w
 abbrev pub step_at : ℕ → List ℕ → List ℕ → Result Turn Problem
-step_at line w bs = step_of line (verb_then (verb_of w) bs)
+step_at line w bs = step_of line (verb_then (verb_named w) bs)

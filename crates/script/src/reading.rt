@@ -7,7 +7,7 @@ ghost use Rattle.script.specs.Words.{left};
 
 use crate::problems::{Problem, Stop};
 use crate::steps::{Call, Step, Verb};
-use crate::words::{Line, is};
+use crate::words::Line;
 use std::alloc::Global;
 
 // Whether a section comes next, and not the end or the work buffer.
@@ -15,8 +15,7 @@ fn section_next(line: &Line) -> bool
     ensures { result ≡ more_sections (left line.now) }
 {
     let mut ahead = *line;
-    let word = ahead.word();
-    !(word.is_empty() || is(word, "with"))
+    !matches!(ahead.word(), b"" | b"with")
 }
 
 fn sections(heap: Global, line: &mut Line) -> Result<Vec<u64>, Stop>
@@ -90,23 +89,20 @@ fn call(heap: Global, verb: Verb, line: &mut Line) -> Result<Call, Stop>
 fn work(line: &mut Line) -> Result<Option<u64>, Problem>
     ensures { result ≡ work_at (left line.old) }
 {
-    let word = line.word();
-    if word.is_empty() {
-        return Ok(None);
+    match line.word() {
+        b"" => Ok(None),
+        b"with" => {
+            let length = line.last(Line::number)?;
+            Ok(Some(length))
+        }
+        _ => Err(Problem::WordTooMany),
     }
-    if !is(word, "with") {
-        return Err(Problem::WordTooMany);
-    }
-    let length = line.last_number()?;
-    Ok(Some(length))
 }
 
 pub fn step(heap: Global, number: u64, word: &[u8], line: &mut Line) -> Result<Step, Stop>
     ensures { Tells turn result (step_at number word.now (left line.old)) }
 {
-    let Some(verb) = Verb::find(word) else {
-        return Err(Stop::Wrong(Problem::UnknownWord));
-    };
+    let verb = Verb::try_from(word)?;
     let call = call(heap, verb, line)?;
     let work = work(line)?;
     Ok(Step {

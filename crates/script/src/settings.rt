@@ -1,13 +1,13 @@
 // What has been read of a history file so far, and how a line adds to it.
 ghost use Rattle.std.specs.Prelude.{◌≡◌};
-ghost use Rattle.script.specs.Draft.{drafted, finished, given, kind_at, line_taken, may_set, medium_at, setting_of, setting_taken, start, whole};
+ghost use Rattle.script.specs.Draft.{drafted, finished, given, kind_at, kind_of, line_taken, may_set, medium_at, setting_of, setting_taken, start, whole};
 ghost use Rattle.script.specs.Told.{Tells, told};
 ghost use Rattle.script.specs.Words.{left};
 
 use crate::problems::{Problem, Stop};
 use crate::reading::step;
 use crate::steps::{Kind, Medium, Script, Step};
-use crate::words::{Line, is};
+use crate::words::Line;
 use std::alloc::Global;
 
 #[derive(Clone, Copy)]
@@ -21,14 +21,27 @@ impl Setting {
     fn find(word: &[u8]) -> Option<Setting>
         ensures { result ≡ setting_of word.now }
     {
-        if is(word, "kind") {
-            Some(Setting::Kind)
-        } else if is(word, "storage") {
-            Some(Setting::Storage)
-        } else if is(word, "work") {
-            Some(Setting::Work)
-        } else {
-            None
+        match word {
+            b"kind" => Some(Setting::Kind),
+            b"storage" => Some(Setting::Storage),
+            b"work" => Some(Setting::Work),
+            _ => None,
+        }
+    }
+}
+
+// The kind that a word of the file names.
+impl TryFrom<&[u8]> for Kind {
+    type Error = Problem;
+
+    ghost try_from_gives = { λ word r. r ≡ kind_of word.now };
+
+    fn try_from(word: &[u8]) -> Result<Kind, Problem> {
+        match word {
+            b"mark" => Ok(Kind::Mark),
+            b"line" => Ok(Kind::Line),
+            b"" => Err(Problem::KindMissing),
+            _ => Err(Problem::UnknownKind),
         }
     }
 }
@@ -36,34 +49,19 @@ impl Setting {
 fn read_kind(line: &mut Line) -> Result<Kind, Problem>
     ensures { result ≡ kind_at (left line.old) }
 {
-    let word = line.word();
-    let kind = if is(word, "mark") {
-        Kind::Mark
-    } else if is(word, "line") {
-        Kind::Line
-    } else if word.is_empty() {
-        return Err(Problem::KindMissing);
-    } else {
-        return Err(Problem::UnknownKind);
-    };
-    line.end()?;
-    Ok(kind)
+    line.last(|line| Kind::try_from(line.word()))
 }
 
 fn read_medium(line: &mut Line) -> Result<Medium, Problem>
     ensures { result ≡ medium_at (left line.old) }
 {
-    let word = line.word();
-    if is(word, "slots") {
-        let (area, wish) = line.last_pair()?;
-        Ok(Medium::Slots { area, wish })
-    } else if is(word, "pages") {
-        let area = line.last_number()?;
-        Ok(Medium::Pages { area })
-    } else if word.is_empty() {
-        Err(Problem::StorageMissing)
-    } else {
-        Err(Problem::UnknownStorage)
+    match line.word() {
+        b"slots" => line
+            .last(Line::pair)
+            .map(|(area, wish)| Medium::Slots { area, wish }),
+        b"pages" => line.last(Line::number).map(|area| Medium::Pages { area }),
+        b"" => Err(Problem::StorageMissing),
+        _ => Err(Problem::UnknownStorage),
     }
 }
 
@@ -116,7 +114,7 @@ impl Draft {
         match setting {
             Setting::Kind => self.kind = Some(read_kind(line)?),
             Setting::Storage => self.medium = Some(read_medium(line)?),
-            Setting::Work => self.work = Some(line.last_number()?),
+            Setting::Work => self.work = Some(line.last(Line::number)?),
         }
         Ok(())
     }

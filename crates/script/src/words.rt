@@ -1,8 +1,10 @@
 // What is left of one line, from which words, numbers and items are cut off at the front.
-ghost use Rattle.std.specs.Prelude.{◌≡◌, vec_items, OnOk};
-ghost use Rattle.std.specs.Str.{bytes_eq};
+ghost use Rattle.std.specs.Prelude.{◌≡◌, vec_items, OnOk, Result};
+ghost use Rattle.std.specs.Fn.{FnOnceReturnsAtMut};
+ghost use Rattle.script.specs.declared.problems.Problem.{Problem};
+ghost use Rattle.script.specs.declared.words.Line.{Line};
 ghost use Rattle.script.specs.Told.{Tells};
-ghost use Rattle.script.specs.Words.{after_word, ended, item_at, last_number_at, last_pair_at, left, number_at, pair_at, plain_of, quote_first, skip, word_at};
+ghost use Rattle.script.specs.Words.{after_word, ended, item_at, left, number_at, pair_at, plain_of, quote_first, skip, then_end, word_at};
 
 use crate::bytes::{is_blank, of_word, run};
 use crate::items::{from_hex, quoted};
@@ -13,13 +15,6 @@ use std::alloc::Global;
 #[derive(Clone, Copy)]
 pub struct Line<'a> {
     rest: &'a [u8],
-}
-
-// Whether a word of the file is this text.
-pub fn is(word: &[u8], text: &str) -> bool
-    ensures { result ≡ bytes_eq word.now text.now }
-{
-    word == text.as_bytes()
 }
 
 fn without_blanks(bytes: &[u8]) -> &[u8]
@@ -105,21 +100,16 @@ impl<'a> Line<'a> {
         }
     }
 
-    // A number that ends the line.
-    pub fn last_number(&mut self) -> Result<u64, Problem>
-        ensures { result ≡ last_number_at (left self.old) }
+    // What `read` reads, with nothing but blanks and a comment after it.
+    pub(crate) fn last<T: Drop, F: FnOnce(&mut Line<'a>) -> Result<T, Problem>>(
+        &mut self,
+        read: F,
+    ) -> Result<T, Problem>
+        requires { F.IsAlwaysCallable read }
+        ensures { (r : Result T Problem) × (after : Line) × FnOnceReturnsAtMut F.FnOnce read self.old r after × (result ≡ then_end r (ended (left after))) }
     {
-        let n = self.number()?;
+        let value = read(self)?;
         self.end()?;
-        Ok(n)
-    }
-
-    // Two numbers that end the line.
-    pub fn last_pair(&mut self) -> Result<(u64, u64), Problem>
-        ensures { result ≡ last_pair_at (left self.old) }
-    {
-        let numbers = self.pair()?;
-        self.end()?;
-        Ok(numbers)
+        Ok(value)
     }
 }
