@@ -1,5 +1,5 @@
 -- Which bytes words, lines and texts are made of.
-use Rattle.std.specs.Prelude.{ℕ, Bool, not, ◌&&◌, ◌||◌, ◌==◌, nat_le}
+use Rattle.std.specs.Prelude.{ℕ, Bool, false, List, [], ◌∷◌, not, ◌&&◌, ◌||◌, ◌==◌, nat_le}
 
 -- any byte but a line's end, 10
 abbrev pub of_line : ℕ → Bool
@@ -24,3 +24,8 @@ of_quote b = not (b == 34)
 -- a blank is the first of them
 abbrev pub is_printable : ℕ → Bool
 is_printable b = nat_le 32 b && nat_le b 126
+
+-- there is a first byte, and it passes
+abbrev pub first_is : (ℕ → Bool) → List ℕ → Bool
+first_is p [] = false
+first_is p (b ∷ bs) = p b
