@@ -1,7 +1,8 @@
 -- What one turn of `parse` keeps.
-use Rattle.std.proofs.Common.{◌≡◌, ℕ, suc, ◌+◌, ◌<◌, true, false, List, [], ◌∷◌, map, length, take, drop, Ok, Err, Result, sym, refl, ap, ◌∙◌, ⊎_elim, one-add, arith, length-drop}
+use Rattle.std.proofs.Common.{◌≡◌, ℕ, suc, ◌+◌, ◌≤◌, true, false, List, [], ◌∷◌, map, length, take, drop, ◌==◌, Ok, Err, Result, sym, refl, ap, ◌∙◌, ⊎_elim, one-add, arith}
 use Rattle.std.specs.List.{prefix_len}
-use Rattle.std.proofs.lemmas.Bool.{cases_Bool, cond-true, cond-false}
+use Rattle.std.proofs.lemmas.List.{length-map}
+use Rattle.std.proofs.lemmas.Bool.{cases_Bool, cond-true, cond-false, eqb-false}
 use Rattle.script.specs.Bytes.{of_line}
 use Rattle.script.specs.Draft.{Drafted, line_taken, start}
 use Rattle.script.specs.Lines.{after_line, in_front, line_at, lines, pieces, without_return}
@@ -39,22 +40,32 @@ pieces_split : (b : ℕ) (bs : List ℕ) → pieces (b ∷ bs) ≡ front (b ∷ 
 pieces_split b [] = ⊎_elim (λ e. inside b [] e refl) (λ e. ends b [] e) (cases_Bool (of_line b))
 pieces_split b (x ∷ xs) = ⊎_elim (λ e. inside b (x ∷ xs) e (ap (in_front b) (pieces_split x xs))) (λ e. ends b (x ∷ xs) e) (cases_Bool (of_line b))
 
-lines_split : (bs : List ℕ) → 0 < length bs → lines bs ≡ line_at bs ∷ lines (after_line bs)
-lines_split [] some = absurd (omega arith)
-lines_split (b ∷ bs) some = ap (map without_return) (pieces_split b bs)
+pub lines_split : (bs line rest : List ℕ) → false ≡ (length bs == 0) → line ≡ line_at bs → rest ≡ after_line bs → lines bs ≡ line ∷ lines rest
+lines_split [] line rest some first left = absurd (omega (arith, eqb-false 0 0 (sym some) refl))
+lines_split (b ∷ bs) line rest some first left = rw (first, left) (ap (map without_return) (pieces_split b bs))
 
-pub line_shortens : (bs : List ℕ) → 0 < length bs → length (after_line bs) < length bs
-line_shortens bs some = omega (arith, length-drop (prefix_len of_line bs + 1) bs)
+length_front : (b : ℕ) (ls : List (List ℕ)) → length (in_front b ls) ≤ suc (length ls)
+length_front b [] = omega arith
+length_front b (l ∷ ls) = omega arith
 
-one_line : (d : Drafted) (n : ℕ) (line rest after : List ℕ) → 0 < length rest → line ≡ line_at rest → after ≡ after_line rest → lines_taken d n (lines rest) ≡ go_on (n + 1) (line_taken d (n + 1) line) (λ e. lines_taken e (n + 1) (lines after))
-one_line d n line rest after some first left =
-    ap (lines_taken d n) (lines_split rest some) ∙ ap (λ l. lines_taken d n (l ∷ lines (after_line rest))) (sym first) ∙ ap (λ l. lines_taken d n (line ∷ lines l)) (sym left)
+-- a line takes a byte at least
+few_pieces : (bs : List ℕ) → length (pieces bs) ≤ length bs
+few_pieces [] = omega arith
+few_pieces (b ∷ bs) = ⊎_elim (λ e. rw (cond-true (of_line b) (in_front b (pieces bs)) ([] ∷ pieces bs) e) (omega (arith, length_front b (pieces bs), few_pieces bs))) (λ e. rw (cond-false (of_line b) (in_front b (pieces bs)) ([] ∷ pieces bs) e) (omega (arith, few_pieces bs))) (cases_Bool (of_line b))
 
-pub line_goes : (whole : Result Drafted Mistake) (d e : Drafted) (n : ℕ) (line rest after : List ℕ) → 0 < length rest → line ≡ line_at rest → after ≡ after_line rest → line_taken d (n + 1) line ≡ Ok e → lines_taken d n (lines rest) ≡ whole → lines_taken e (n + 1) (lines after) ≡ whole
-line_goes whole d e n line rest after some first left read inv =
-    ap (λ r. go_on (n + 1) r (λ f. lines_taken f (n + 1) (lines after))) (sym read) ∙ sym (one_line d n line rest after some first left) ∙ inv
+pub few_lines : (bs : List ℕ) → length (lines bs) ≤ length bs
+few_lines bs = rw (length-map (pieces bs) without_return) (few_pieces bs)
 
-pub line_stops : (f : Unit {0} → Drafted) (text : List ℕ) (d : Drafted) (n : ℕ) (stop : Stop) (r : Failure) (line rest : List ℕ) → 0 < length rest → line ≡ line_at rest → r ≡ failure_at (n + 1) stop → Tells f (Err stop) (line_taken d (n + 1) line) → lines_taken d n (lines rest) ≡ lines_taken start 0 (lines text) → Parses (Err r) (script_of text)
-line_stops f text d n (Wrong p) r line rest some first is read inv =
-    rw is (ap closed (sym inv ∙ one_line d n line rest (after_line rest) some first refl ∙ ap (λ t. go_on (n + 1) t (λ e. lines_taken e (n + 1) (lines (after_line rest)))) read))
-line_stops f text d n OutOfMemory r line rest some first is read inv = rw is tt
+-- line i is the first that is left, where i have been read
+module _ (d : Drafted) (n i : ℕ) (line : List ℕ) (all others : List (List ℕ)) (split : all ≡ line ∷ others) (same : i ≡ n) where
+  turn : lines_taken d n all ≡ go_on (i + 1) (line_taken d (i + 1) line) (λ e. lines_taken e (i + 1) others)
+  turn = rw (split, ← same) refl
+
+  pub line_goes : (whole : Result Drafted Mistake) (e : Drafted) (m : ℕ) → m ≡ n + 1 → line_taken d (i + 1) line ≡ Ok e → lines_taken d n all ≡ whole → lines_taken e m others ≡ whole
+  line_goes whole e m more read inv =
+      rw (more, ← same) (ap (λ r. go_on (i + 1) r (λ f. lines_taken f (i + 1) others)) (sym read) ∙ sym turn ∙ inv)
+
+  pub line_stops : (f : Unit {0} → Drafted) (text : List ℕ) (stop : Stop) (r : Failure) → r ≡ failure_at (i + 1) stop → Tells f (Err stop) (line_taken d (i + 1) line) → lines_taken d n all ≡ lines_taken start 0 (lines text) → Parses (Err r) (script_of text)
+  line_stops f text (Wrong p) r is read inv =
+      rw is (ap closed (sym inv ∙ turn ∙ ap (λ t. go_on (i + 1) t (λ e. lines_taken e (i + 1) others)) read))
+  line_stops f text OutOfMemory r is read inv = rw is tt

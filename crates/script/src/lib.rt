@@ -17,7 +17,7 @@ mod settings;
 mod steps;
 mod words;
 
-use lines::cut_line;
+use lines::Lines;
 use problems::Stop;
 pub use problems::{Failure, Mistake, Problem};
 use settings::Draft;
@@ -36,15 +36,11 @@ pub fn parse(heap: Global, text: &[u8]) -> Result<Script, Failure>
     ensures { Parses result (script_of text.now) }
 {
     let mut draft = Draft::new(heap);
-    let mut number: u64 = 0;
-    let mut rest = text;
-    while !rest.is_empty() {
-        let (line, after) = cut_line(rest);
-        number += 1;
+    for (i, line) in Lines::new(text).enumerate() {
+        let number = i as u64 + 1;
         if let Err(stop) = draft.take(heap, number, line) {
             return Err(at_line(number, stop));
         }
-        rest = after;
     }
     Ok(draft.finish())
 }
