@@ -1,6 +1,6 @@
 -- The number that decimal digits write, and what reading a number answers.
-use Rattle.std.specs.Prelude.{ℕ, ◌+◌, ◌-◌, ◌*◌, ◌^◌, Bool, cond, ◌&&◌, List, [], ◌∷◌, length, Ok, Err, Result, ◌==◌, nat_lt}
-use Rattle.std.specs.List.{prefix_len}
+use Rattle.std.specs.Prelude.{ℕ, ◌+◌, ◌-◌, ◌*◌, ◌^◌, Bool, cond, ◌&&◌, List, [], ◌∷◌, length, Ok, Err, Result, nat_lt}
+use Rattle.std.specs.List.{list_all}
 use Rattle.script.specs.Bytes.{is_digit}
 use Rattle.script.specs.declared.problems.Problem.{Problem}
 use Rattle.script.specs.declared.problems.Problem.TheVariants.{NotANumber, NumberTooLarge}
@@ -16,7 +16,7 @@ decimal bs = decimal_after 0 bs
 
 -- one or more digits, and nothing else
 abbrev pub numeral : List ℕ → Bool
-numeral bs = nat_lt 0 (length bs) && prefix_len is_digit bs == length bs
+numeral bs = nat_lt 0 (length bs) && list_all is_digit bs
 
 -- leading zeros do not matter: only the value has to fit 64 bits
 abbrev pub number_of : List ℕ → Result ℕ Problem

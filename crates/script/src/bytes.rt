@@ -1,6 +1,6 @@
 // Which bytes words, lines and texts are made of, and the longest run of them at the front.
 ghost use Rattle.std.specs.Prelude.{◌≡◌, ◌≤◌, ℕ, Bool, length};
-ghost use Rattle.std.specs.List.{prefix_len};
+ghost use Rattle.std.specs.List.{list_all, prefix_len};
 ghost use Rattle.script.specs.Bytes.{is_blank, is_digit, is_printable, of_line, of_quote, of_word};
 
 // Any byte but the one that ends a line.
@@ -51,4 +51,12 @@ pub(crate) fn run<F: Fn(u8) -> bool>(bytes: &[u8], kind: F) -> usize
     ensures within { result ≤ length bytes.now }
 {
     bytes.iter().take_while(|b| kind(**b)).count()
+}
+
+// Whether all bytes are of that kind.
+pub(crate) fn all<F: Fn(u8) -> bool>(bytes: &[u8], kind: F) -> bool
+    requires { F.IsAlwaysCallable kind }
+    ensures { (p : ℕ → Bool) → ((b : ℕ) (r : Bool) → F.post kind b r → r ≡ p b) → result ≡ list_all p bytes.now }
+{
+    bytes.iter().all(|b| kind(*b))
 }

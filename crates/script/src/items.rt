@@ -1,12 +1,11 @@
 // Reads the bytes of an item, which a history file writes as pairs of hexadecimal digits or as a quoted text.
 ghost use Rattle.std.specs.Prelude.{◌≡◌, vec_items};
-ghost use Rattle.std.specs.List.{list_all};
-ghost use Rattle.script.specs.Bytes.{first_is, is_printable, of_word};
+ghost use Rattle.script.specs.Bytes.{first_is, of_word};
 ghost use Rattle.script.specs.Hex.{hex_byte, hex_digit, hex_of};
 ghost use Rattle.script.specs.Quotes.{parts, quoted_of};
 ghost use Rattle.script.specs.Told.{Tells, told};
 
-use crate::bytes::{is_printable, of_quote, of_word, run};
+use crate::bytes::{all, is_printable, of_quote, of_word, run};
 use crate::problems::{Problem, Stop};
 use std::alloc::Global;
 
@@ -45,12 +44,6 @@ pub fn from_hex(heap: Global, word: &[u8]) -> Result<Vec<u8>, Stop>
     }
 }
 
-fn all_printable(text: &[u8]) -> bool
-    ensures { result ≡ list_all is_printable text.now }
-{
-    text.iter().all(|b| is_printable(*b))
-}
-
 // Whether a word goes on here.
 fn goes_on(bytes: &[u8]) -> bool
     ensures { result ≡ first_is of_word bytes.now }
@@ -59,13 +52,13 @@ fn goes_on(bytes: &[u8]) -> bool
 }
 
 // The text up to the closing quote, and what follows that quote; `bytes` begins after the opening one.
-pub fn quoted<'a>(bytes: &'a [u8]) -> Result<(&'a [u8], &'a [u8]), Problem>
+pub(crate) fn quoted(bytes: &[u8]) -> Result<(&[u8], &[u8]), Problem>
     ensures { told parts result ≡ quoted_of bytes.now }
 {
     let (text, [_, after @ ..]) = bytes.split_at(run(bytes, of_quote)) else {
         return Err(Problem::QuoteNotClosed);
     };
-    if !all_printable(text) {
+    if !all(text, is_printable) {
         return Err(Problem::Unprintable);
     }
     if goes_on(after) {
