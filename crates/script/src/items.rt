@@ -6,7 +6,7 @@ ghost use Rattle.script.specs.Quotes.{parts, quoted_of};
 ghost use Rattle.script.specs.Told.{Tells, told};
 
 use crate::bytes::{all, is_printable, of_quote, of_word, run};
-use crate::problems::{Problem, Stop};
+use crate::problems::{Failure, Problem};
 use std::alloc::Global;
 
 fn hex_digit(b: u8) -> Option<u8>
@@ -28,7 +28,7 @@ fn hex_byte(high: u8, low: u8) -> Option<u8>
     Some(sixteens * 16 + ones)
 }
 
-pub fn from_hex(heap: Global, word: &[u8]) -> Result<Vec<u8>, Stop>
+pub fn from_hex(heap: Global, word: &[u8]) -> Result<Vec<u8>, Failure<Problem>>
     ensures { Tells vec_items result (hex_of word.now) }
 {
     let (pairs, odd) = word.as_chunks::<2>();
@@ -40,7 +40,7 @@ pub fn from_hex(heap: Global, word: &[u8]) -> Result<Vec<u8>, Stop>
     if odd.is_empty() {
         Ok(bytes)
     } else {
-        Err(Stop::Wrong(Problem::OddDigits))
+        Err(Failure::Mistake(Problem::OddDigits))
     }
 }
 

@@ -2,8 +2,7 @@
 // with the number of its first wrong line and what is wrong there.
 #![tactic(auto)]
 
-ghost use Rattle.script.specs.Parsed.{Parses, failure_at, script_of};
-ghost use Rattle.std.specs.Prelude.{◌≡◌};
+ghost use Rattle.script.specs.Parsed.{Parses, script_of};
 
 use std::alloc::Global;
 
@@ -18,19 +17,9 @@ mod steps;
 mod words;
 
 use lines::Lines;
-use problems::Stop;
 pub use problems::{Failure, Mistake, Problem};
 use settings::Draft;
 pub use steps::{Call, Kind, Medium, Script, Step};
-
-fn at_line(line: u64, stop: Stop) -> Failure
-    ensures { result ≡ failure_at line stop }
-{
-    match stop {
-        Stop::Wrong(problem) => Failure::Mistake(Mistake { line, problem }),
-        Stop::OutOfMemory => Failure::Memory,
-    }
-}
 
 pub fn parse(heap: Global, text: &[u8]) -> Result<Script, Failure>
     ensures { Parses result (script_of text.now) }
@@ -38,9 +27,9 @@ pub fn parse(heap: Global, text: &[u8]) -> Result<Script, Failure>
     let mut draft = Draft::new(heap);
     for (i, line) in Lines::new(text).enumerate() {
         let number = i as u64 + 1;
-        if let Err(stop) = draft.take(heap, number, line) {
-            return Err(at_line(number, stop));
-        }
+        draft
+            .take(heap, number, line)
+            .map_err(|failure| failure.at_line(number))?;
     }
     Ok(draft.finish())
 }

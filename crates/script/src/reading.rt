@@ -5,7 +5,7 @@ ghost use Rattle.script.specs.Calls.{append_at, call_at, more_sections, sections
 ghost use Rattle.script.specs.Told.{Tells};
 ghost use Rattle.script.specs.Words.{left};
 
-use crate::problems::{Problem, Stop};
+use crate::problems::{Failure, Problem};
 use crate::steps::{Call, Step, Verb};
 use crate::words::Line;
 use std::alloc::Global;
@@ -18,7 +18,7 @@ fn section_next(line: &Line) -> bool
     !matches!(ahead.word(), b"" | b"with")
 }
 
-fn sections(heap: Global, line: &mut Line) -> Result<Vec<u64>, Stop>
+fn sections(heap: Global, line: &mut Line) -> Result<Vec<u64>, Failure<Problem>>
     ensures { Tells (λ v. (v.items, left line.new)) result (sections_at (left line.old)) }
 {
     let mut sections = Vec::new(heap);
@@ -29,14 +29,14 @@ fn sections(heap: Global, line: &mut Line) -> Result<Vec<u64>, Stop>
     Ok(sections)
 }
 
-fn sync(heap: Global, line: &mut Line) -> Result<Call, Stop>
+fn sync(heap: Global, line: &mut Line) -> Result<Call, Failure<Problem>>
     ensures { Tells (λ c. (asked c, left line.new)) result (sync_at (left line.old)) }
 {
     let sections = sections(heap, line)?;
     Ok(Call::Sync { sections })
 }
 
-fn append(heap: Global, line: &mut Line) -> Result<Call, Stop>
+fn append(heap: Global, line: &mut Line) -> Result<Call, Failure<Problem>>
     ensures { Tells (λ c. (asked c, left line.new)) result (append_at (left line.old)) }
 {
     let section = line.number()?;
@@ -44,7 +44,7 @@ fn append(heap: Global, line: &mut Line) -> Result<Call, Stop>
     Ok(Call::Append { section, item })
 }
 
-fn call(heap: Global, verb: Verb, line: &mut Line) -> Result<Call, Stop>
+fn call(heap: Global, verb: Verb, line: &mut Line) -> Result<Call, Failure<Problem>>
     ensures { Tells (λ c. (asked c, left line.new)) result (call_at verb (left line.old)) }
 {
     match verb {
@@ -99,7 +99,12 @@ fn work(line: &mut Line) -> Result<Option<u64>, Problem>
     }
 }
 
-pub fn step(heap: Global, number: u64, word: &[u8], line: &mut Line) -> Result<Step, Stop>
+pub fn step(
+    heap: Global,
+    number: u64,
+    word: &[u8],
+    line: &mut Line,
+) -> Result<Step, Failure<Problem>>
     ensures { Tells turn result (step_at number word.now (left line.old)) }
 {
     let verb = Verb::try_from(word)?;

@@ -4,7 +4,7 @@ ghost use Rattle.script.specs.Draft.{drafted, finished, given, kind_at, kind_of,
 ghost use Rattle.script.specs.Told.{Tells, told};
 ghost use Rattle.script.specs.Words.{left};
 
-use crate::problems::{Problem, Stop};
+use crate::problems::{Failure, Problem};
 use crate::reading::step;
 use crate::steps::{Kind, Medium, Script, Step};
 use crate::words::Line;
@@ -120,7 +120,7 @@ impl Draft {
     }
 
     // Takes the line with this number.
-    pub fn take(&mut self, heap: Global, number: u64, bytes: &[u8]) -> Result<(), Stop>
+    pub fn take(&mut self, heap: Global, number: u64, bytes: &[u8]) -> Result<(), Failure<Problem>>
         ensures { Tells (λ _. drafted self.new) result (line_taken (drafted self.old) number bytes.now) }
     {
         let mut line = Line::new(bytes);

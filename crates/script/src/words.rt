@@ -9,7 +9,7 @@ ghost use Rattle.script.specs.Words.{after_word, ended, item_at, left, number_at
 use crate::bytes::{is_blank, of_word, run};
 use crate::items::{from_hex, quoted};
 use crate::numbers::number;
-use crate::problems::{Problem, Stop};
+use crate::problems::{Failure, Problem};
 use std::alloc::Global;
 
 #[derive(Clone, Copy)]
@@ -30,11 +30,11 @@ fn opens_quote(bytes: &[u8]) -> bool
 }
 
 // The bytes of an item that is not quoted.
-fn plain(heap: Global, word: &[u8]) -> Result<Vec<u8>, Stop>
+fn plain(heap: Global, word: &[u8]) -> Result<Vec<u8>, Failure<Problem>>
     ensures { Tells vec_items result (plain_of word.now) }
 {
     match word {
-        b"" => Err(Stop::Wrong(Problem::ItemMissing)),
+        b"" => Err(Failure::Mistake(Problem::ItemMissing)),
         b"-" => Ok(Vec::new(heap)),
         _ => from_hex(heap, word),
     }
@@ -78,7 +78,7 @@ impl<'a> Line<'a> {
         Ok((first, second))
     }
 
-    pub fn item(&mut self, heap: Global) -> Result<Vec<u8>, Stop>
+    pub fn item(&mut self, heap: Global) -> Result<Vec<u8>, Failure<Problem>>
         ensures { Tells (λ v. (v.items, left self.new)) result (item_at (left self.old)) }
     {
         let tail = without_blanks(self.rest);

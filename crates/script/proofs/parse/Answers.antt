@@ -1,4 +1,7 @@
-use Rattle.std.proofs.Common.{◌≡◌, ◌+◌, ◌≤◌, length, Ok, inl, sym, ap, ◌∙◌, arith}
+use Rattle.std.proofs.Common.{◌≡◌, ◌+◌, ◌≤◌, length, Ok, Err, inl, sym, ap, ◌∙◌, arith, rules}
+use Rattle.std.specs.Result.{MatchResult}
+use Rattle.std.proofs.lemmas.Result.{err_from_is_err_and}
+use Rattle.script.specs.Told.{failure_at}
 use Rattle.script.specs.Draft.{drafted}
 use Rattle.script.specs.Lines.{lines}
 use Rattle.script.specs.Parsed.{closed, lines_taken}
@@ -11,16 +14,20 @@ loop-i-init c =
     let none : c.into_iter-i-iterator.result.count ≡ 0 = cc in
     rw (text, none) ((tt, tt, inl (omega (arith, few_lines c.args.text.now))), tt, omega (arith, few_lines c.args.text.now), ap (λ d. lines_taken d 0 (lines c.args.text.now)) c.new-draft.ensures)
 
-pub returns-in-Err : goal.returns-in-Err
-returns-in-Err c =
+pub returns-in_err-map_err : goal.returns-in_err-map_err
+returns-in_err-map_err c =
     let step = c.in-Some.ensures.steps in
-    line_stops (drafted c.loop-i.draft) c.loop-i.i-iterator.count c.in-Some.i c.in-Some.line.now _ _ step.0 step.1 (λ _. drafted c.take.new.self) c.args.text.now c.in-Err.stop _ c.at_line.ensures c.in-Err.ensures c.loop-i.invariant.3
+    let passed : MatchResult c.take.result (λ u. c.map_err.result ≡ Ok u) (λ f. c.map_err.result ≡ Err (failure_at (c.in-Some.i + 1) f)) = search rules in
+    let p = err_from_is_err_and c.from_residual.result c.from_residual.ensures.1 in
+    rw (p.1, p.2)
+    (line_stops (drafted c.loop-i.draft) c.loop-i.i-iterator.count c.in-Some.i c.in-Some.line.now _ _ step.0 step.1 (drafted c.take.new.self) c.take.result c.map_err.result c.take.ensures passed c.args.text.now c.in_err-map_err.field-0.0 c.in_err-map_err.was c.loop-i.invariant.3)
 
 pub loop-i-preserved : goal.loop-i-preserved
 loop-i-preserved c =
     let step = c.in-Some.ensures.steps in
     let room : c.next.new.self.count + length (lines c.next.new.self.iter.rest.now) ≤ length c.args.text.now = omega (arith, c.loop-i.invariant.2, ap length step.0, step.2) in
-    ((tt, tt, inl (omega (arith, room))), tt, room, line_goes (drafted c.loop-i.draft) c.loop-i.i-iterator.count c.in-Some.i c.in-Some.line.now _ _ step.0 step.1 _ (drafted c.take.new.self) _ step.2 c.in_default.ensures c.loop-i.invariant.3)
+    let passed : MatchResult c.take.result (λ u. c.map_err.result ≡ Ok u) (λ f. c.map_err.result ≡ Err (failure_at (c.in-Some.i + 1) f)) = search rules in
+    ((tt, tt, inl (omega (arith, room))), tt, room, line_goes (drafted c.loop-i.draft) c.loop-i.i-iterator.count c.in-Some.i c.in-Some.line.now _ _ step.0 step.1 (drafted c.take.new.self) c.take.result c.map_err.result c.take.ensures passed _ _ tt c.in_ok-map_err.was step.2 c.loop-i.invariant.3)
 
 pub returns : goal.returns
 returns c =
