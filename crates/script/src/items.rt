@@ -28,7 +28,7 @@ fn hex_byte(high: u8, low: u8) -> Option<u8>
     Some(sixteens * 16 + ones)
 }
 
-pub fn from_hex(heap: Global, word: &[u8]) -> Result<Vec<u8>, Failure<Problem>>
+pub(crate) fn from_hex(heap: Global, word: &[u8]) -> Result<Vec<u8>, Failure<Problem>>
     ensures { Tells vec_items result (hex_of word.now) }
 {
     let (pairs, odd) = word.as_chunks::<2>();

@@ -103,8 +103,8 @@ impl fmt::Display for Failure {
 impl From<Problem> for Failure<Problem> {
     ghost from_gives = { λ p r. r ≡ Mistake p };
 
-    fn from(problem: Problem) -> Failure<Problem> {
-        Failure::Mistake(problem)
+    fn from(p: Problem) -> Failure<Problem> {
+        Failure::Mistake(p)
     }
 }
 

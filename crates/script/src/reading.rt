@@ -99,7 +99,7 @@ fn work(line: &mut Line) -> Result<Option<u64>, Problem>
     }
 }
 
-pub fn step(
+pub(crate) fn step(
     heap: Global,
     number: u64,
     word: &[u8],

@@ -11,7 +11,7 @@ use crate::words::Line;
 use std::alloc::Global;
 
 #[derive(Clone, Copy)]
-pub enum Setting {
+pub(crate) enum Setting {
     Kind,
     Storage,
     Work,
@@ -30,26 +30,21 @@ impl Setting {
     }
 }
 
-// The kind that a word of the file names.
-impl TryFrom<&[u8]> for Kind {
-    type Error = Problem;
-
-    ghost try_from_gives = { λ word r. r ≡ kind_of word.now };
-
-    fn try_from(word: &[u8]) -> Result<Kind, Problem> {
-        match word {
-            b"mark" => Ok(Kind::Mark),
-            b"line" => Ok(Kind::Line),
-            b"" => Err(Problem::KindMissing),
-            _ => Err(Problem::UnknownKind),
-        }
+fn kind_named(word: &[u8]) -> Result<Kind, Problem>
+    ensures { result ≡ kind_of word.now }
+{
+    match word {
+        b"mark" => Ok(Kind::Mark),
+        b"line" => Ok(Kind::Line),
+        b"" => Err(Problem::KindMissing),
+        _ => Err(Problem::UnknownKind),
     }
 }
 
 fn read_kind(line: &mut Line) -> Result<Kind, Problem>
     ensures { result ≡ kind_at (left line.old) }
 {
-    line.last(|line| Kind::try_from(line.word()))
+    line.last(|line| kind_named(line.word()))
 }
 
 fn read_medium(line: &mut Line) -> Result<Medium, Problem>
@@ -66,7 +61,7 @@ fn read_medium(line: &mut Line) -> Result<Medium, Problem>
 }
 
 #[derive(Drop)]
-pub struct Draft {
+pub(crate) struct Draft {
     kind: Option<Kind>,
     medium: Option<Medium>,
     work: Option<u64>,
@@ -74,7 +69,7 @@ pub struct Draft {
 }
 
 impl Draft {
-    pub fn new(heap: Global) -> Draft
+    pub(crate) fn new(heap: Global) -> Draft
         ensures { drafted result ≡ start }
     {
         Draft {
@@ -120,7 +115,7 @@ impl Draft {
     }
 
     // Takes the line with this number.
-    pub fn take(&mut self, heap: Global, number: u64, bytes: &[u8]) -> Result<(), Failure<Problem>>
+    pub(crate) fn take(&mut self, heap: Global, number: u64, bytes: &[u8]) -> Result<(), Failure<Problem>>
         ensures { Tells (λ _. drafted self.new) result (line_taken (drafted self.old) number bytes.now) }
     {
         let mut line = Line::new(bytes);
@@ -128,32 +123,24 @@ impl Draft {
         if word.is_empty() {
             return Ok(());
         }
-        if let Some(setting) = Setting::find(word) {
-            self.set(setting, &mut line)?;
-            return Ok(());
+        match Setting::find(word) {
+            Some(setting) => self.set(setting, &mut line)?,
+            None => self.steps.push(step(heap, number, word, &mut line)?)?,
         }
-        let step = step(heap, number, word, &mut line)?;
-        self.steps.push(step)?;
         Ok(())
     }
 
-    pub fn finish(self) -> Script
+    pub(crate) fn finish(self) -> Script
         ensures { whole result ≡ finished (drafted self) }
     {
-        let Draft {
-            kind,
-            medium,
-            work,
-            steps,
-        } = self;
         Script {
-            kind: kind.unwrap_or(Kind::Line),
-            medium: medium.unwrap_or(Medium::Slots {
+            kind: self.kind.unwrap_or(Kind::Line),
+            medium: self.medium.unwrap_or(Medium::Slots {
                 area: 4194304,
                 wish: 64,
             }),
-            work,
-            steps,
+            work: self.work,
+            steps: self.steps,
         }
     }
 }

@@ -20,7 +20,7 @@ pub enum Medium {
 
 // The names of the steps.
 #[derive(Clone, Copy)]
-pub enum Verb {
+pub(crate) enum Verb {
     Open,
     InitAtMost,
     Close,
@@ -53,7 +53,7 @@ impl Verb {
         Verb::Finish,
     ];
 
-    pub fn word(self) -> &'static str
+    pub(crate) fn word(self) -> &'static str
         ensures { result.now ≡ verb_word self }
     {
         match self {

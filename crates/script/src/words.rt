@@ -13,7 +13,7 @@ use crate::problems::{Failure, Problem};
 use std::alloc::Global;
 
 #[derive(Clone, Copy)]
-pub struct Line<'a> {
+pub(crate) struct Line<'a> {
     rest: &'a [u8],
 }
 
@@ -41,14 +41,14 @@ fn plain(heap: Global, word: &[u8]) -> Result<Vec<u8>, Failure<Problem>>
 }
 
 impl<'a> Line<'a> {
-    pub fn new(bytes: &'a [u8]) -> Line<'a>
+    pub(crate) fn new(bytes: &'a [u8]) -> Line<'a>
         ensures { left result ≡ bytes.now }
     {
         Line { rest: bytes }
     }
 
     // The next word, which is empty where the line or a comment ends it.
-    pub fn word(&mut self) -> &'a [u8]
+    pub(crate) fn word(&mut self) -> &'a [u8]
         ensures value { result.now ≡ word_at (left self.old) }
         ensures after { left self.new ≡ after_word (left self.old) }
     {
@@ -58,7 +58,7 @@ impl<'a> Line<'a> {
         word
     }
 
-    pub fn number(&mut self) -> Result<u64, Problem>
+    pub(crate) fn number(&mut self) -> Result<u64, Problem>
         ensures value { result ≡ number_at (left self.old) }
         ensures after { left self.new ≡ after_word (left self.old) }
     {
@@ -69,7 +69,7 @@ impl<'a> Line<'a> {
         number(word)
     }
 
-    pub fn pair(&mut self) -> Result<(u64, u64), Problem>
+    pub(crate) fn pair(&mut self) -> Result<(u64, u64), Problem>
         ensures value { result ≡ pair_at (left self.old) }
         ensures after { OnOk result (left self.new ≡ after_word (after_word (left self.old))) }
     {
@@ -78,7 +78,7 @@ impl<'a> Line<'a> {
         Ok((first, second))
     }
 
-    pub fn item(&mut self, heap: Global) -> Result<Vec<u8>, Failure<Problem>>
+    pub(crate) fn item(&mut self, heap: Global) -> Result<Vec<u8>, Failure<Problem>>
         ensures { Tells (λ v. (v.items, left self.new)) result (item_at (left self.old)) }
     {
         let tail = without_blanks(self.rest);
@@ -90,7 +90,7 @@ impl<'a> Line<'a> {
         Ok(Vec::from_slice(heap, text)?)
     }
 
-    pub fn end(&mut self) -> Result<(), Problem>
+    pub(crate) fn end(&mut self) -> Result<(), Problem>
         ensures { result ≡ ended (left self.old) }
     {
         if self.word().is_empty() {
