@@ -5,4 +5,3 @@ pub mod LineTurns
 pub mod Pairs
 pub mod SectionTurns
 pub mod StepLines
-pub mod Tellings

@@ -115,7 +115,12 @@ impl Draft {
     }
 
     // Takes the line with this number.
-    pub(crate) fn take(&mut self, heap: Global, number: u64, bytes: &[u8]) -> Result<(), Failure<Problem>>
+    pub(crate) fn take(
+        &mut self,
+        heap: Global,
+        number: u64,
+        bytes: &[u8],
+    ) -> Result<(), Failure<Problem>>
         ensures { Tells (λ _. drafted self.new) result (line_taken (drafted self.old) number bytes.now) }
     {
         let mut line = Line::new(bytes);

@@ -4,7 +4,7 @@ ghost use Rattle.std.specs.Fn.{FnOnceReturnsAtMut};
 ghost use Rattle.script.specs.declared.problems.Problem.{Problem};
 ghost use Rattle.script.specs.declared.words.Line.{Line};
 ghost use Rattle.script.specs.Told.{Tells};
-ghost use Rattle.script.specs.Words.{after_word, ended, item_at, left, number_at, pair_at, plain_of, quote_first, skip, then_end, word_at};
+ghost use Rattle.script.specs.Words.{after_word, ended, item_at, left, number_at, pair_at, plain_of, skip, then_end, word_at};
 
 use crate::bytes::{is_blank, of_word, run};
 use crate::items::{from_hex, quoted};
@@ -21,12 +21,6 @@ fn without_blanks(bytes: &[u8]) -> &[u8]
     ensures { result.now ≡ skip bytes.now }
 {
     &bytes[run(bytes, is_blank)..]
-}
-
-fn opens_quote(bytes: &[u8]) -> bool
-    ensures { result ≡ quote_first bytes.now }
-{
-    matches!(bytes, [b'"', ..])
 }
 
 // The bytes of an item that is not quoted.
@@ -81,13 +75,14 @@ impl<'a> Line<'a> {
     pub(crate) fn item(&mut self, heap: Global) -> Result<Vec<u8>, Failure<Problem>>
         ensures { Tells (λ v. (v.items, left self.new)) result (item_at (left self.old)) }
     {
-        let tail = without_blanks(self.rest);
-        if !opens_quote(tail) {
-            return plain(heap, self.word());
+        match without_blanks(self.rest) {
+            [b'"', tail @ ..] => {
+                let (text, after) = quoted(tail)?;
+                self.rest = after;
+                Ok(Vec::from_slice(heap, text)?)
+            }
+            _ => plain(heap, self.word()),
         }
-        let (text, after) = quoted(&tail[1..])?;
-        self.rest = after;
-        Ok(Vec::from_slice(heap, text)?)
     }
 
     pub(crate) fn end(&mut self) -> Result<(), Problem>
