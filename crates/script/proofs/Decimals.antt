@@ -1,6 +1,6 @@
 -- The digits of a number, in the words of the library.
-use Rattle.std.proofs.Common.{◌≡◌, ℕ, ◌<◌, ◌^◌, true, nat_lt, length, List, Ok, Err, Result, sym, ap, ◌∙◌, arith, rules}
-use Rattle.std.specs.List.{list_all}
+use Rattle.std.proofs.Common.{◌≡◌, ℕ, ◌+◌, ◌-◌, ◌*◌, ◌<◌, ◌^◌, true, nat_lt, length, List, Ok, Err, Result, sym, ap, ◌∙◌, arith, rules}
+use Rattle.std.specs.List.{fold, list_all}
 use Rattle.std.specs.Result.{MatchResult}
 use Rattle.std.specs.Str.{IsAscii}
 use Rattle.std.specs.Str.Parse.{ParsesUnsigned}
@@ -8,12 +8,12 @@ use Rattle.std.proofs.lemmas.Bool.{and_parts, cond-true, cond-false, le-ltb, lt-
 use Rattle.std.proofs.lemmas.Fmt.{IsAscii-from_digits}
 use Rattle.std.proofs.lemmas.Str.Parse.{IsNumeralModel, numerals_by_fold, parse_digits}
 use Rattle.script.specs.Bytes.{is_digit}
-use Rattle.script.specs.Decimal.{decimal, decimal_after, number_of, numeral}
+use Rattle.script.specs.Decimal.{decimal, number_of, numeral}
 use Rattle.script.specs.declared.problems.Problem.{Problem}
 use Rattle.script.specs.declared.problems.Problem.TheVariants.{NumberTooLarge}
 
 digits : IsNumeralModel (λ ds. list_all is_digit ds ≡ true) decimal
-digits = numerals_by_fold _ (search rules) decimal_after (search rules)
+digits = numerals_by_fold _ (search rules) (λ n ds. fold (λ m b. m * 10 + (b - 48)) n ds) (search rules)
 
 digits_of : (w : List ℕ) → true ≡ numeral w → list_all is_digit w ≡ true
 digits_of w is = (and_parts _ _ (sym is)).1

@@ -1,5 +1,5 @@
 -- Which bytes words, lines and texts are made of.
-use Rattle.std.specs.Prelude.{ℕ, Bool, false, List, [], ◌∷◌, not, ◌&&◌, ◌||◌, ◌==◌, nat_le}
+use Rattle.std.specs.Prelude.{◌≡◌, ℕ, Bool, false, List, [], ◌∷◌, not, ◌&&◌, ◌||◌, ◌==◌, nat_le}
 
 -- any byte but a line's end, 10
 abbrev pub of_line : ℕ → Bool
@@ -11,7 +11,7 @@ is_blank b = b == 32 || b == 9
 
 -- any byte but a blank, a tab and `#`, 35
 abbrev pub of_word : ℕ → Bool
-of_word b = not (b == 32) && (not (b == 9) && not (b == 35))
+of_word b = not (is_blank b) && not (b == 35)
 
 -- the digits are 48 to 57
 abbrev pub is_digit : ℕ → Bool
@@ -29,3 +29,7 @@ is_printable b = nat_le 32 b && nat_le b 126
 abbrev pub first_is : (ℕ → Bool) → List ℕ → Bool
 first_is p [] = false
 first_is p (b ∷ bs) = p b
+
+-- each answer about a byte is what p says of it
+abbrev pub Agrees : (ℕ → Bool → Type 0) → (ℕ → Bool) → Type 0
+Agrees answers p = (b : ℕ) (r : Bool) → answers b r → r ≡ p b

@@ -1,7 +1,7 @@
 // Which bytes words, lines and texts are made of, and the longest run of them at the front.
 ghost use Rattle.std.specs.Prelude.{◌≡◌, ◌≤◌, ℕ, Bool, length};
 ghost use Rattle.std.specs.List.{list_all, prefix_len};
-ghost use Rattle.script.specs.Bytes.{is_blank, is_digit, is_printable, of_line, of_quote, of_word};
+ghost use Rattle.script.specs.Bytes.{Agrees, is_blank, is_digit, is_printable, of_line, of_quote, of_word};
 
 // Any byte but the one that ends a line.
 pub(crate) fn of_line(b: u8) -> bool
@@ -14,14 +14,14 @@ pub(crate) fn of_line(b: u8) -> bool
 pub(crate) fn is_blank(b: u8) -> bool
     ensures { result ≡ is_blank b }
 {
-    b == b' ' || b == b'\t'
+    matches!(b, b' ' | b'\t')
 }
 
 // Any byte but a blank and the one that starts a comment.
 pub(crate) fn of_word(b: u8) -> bool
     ensures { result ≡ of_word b }
 {
-    b != b' ' && b != b'\t' && b != b'#'
+    !is_blank(b) && b != b'#'
 }
 
 pub(crate) fn is_digit(b: u8) -> bool
@@ -47,7 +47,7 @@ pub(crate) fn is_printable(b: u8) -> bool
 // How many bytes at the front are of the kind that `kind` tells.
 pub(crate) fn run<F: Fn(u8) -> bool>(bytes: &[u8], kind: F) -> usize
     requires { F.IsAlwaysCallable kind }
-    ensures count { (p : ℕ → Bool) → ((b : ℕ) (r : Bool) → F.post kind b r → r ≡ p b) → result ≡ prefix_len p bytes.now }
+    ensures count { (p : ℕ → Bool) → Agrees (F.post kind) p → result ≡ prefix_len p bytes.now }
     ensures within { result ≤ length bytes.now }
 {
     bytes.iter().take_while(|b| kind(**b)).count()
@@ -56,7 +56,7 @@ pub(crate) fn run<F: Fn(u8) -> bool>(bytes: &[u8], kind: F) -> usize
 // Whether all bytes are of that kind.
 pub(crate) fn all<F: Fn(u8) -> bool>(bytes: &[u8], kind: F) -> bool
     requires { F.IsAlwaysCallable kind }
-    ensures { (p : ℕ → Bool) → ((b : ℕ) (r : Bool) → F.post kind b r → r ≡ p b) → result ≡ list_all p bytes.now }
+    ensures { (p : ℕ → Bool) → Agrees (F.post kind) p → result ≡ list_all p bytes.now }
 {
     bytes.iter().all(|b| kind(*b))
 }

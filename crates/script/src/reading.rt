@@ -1,7 +1,7 @@
 // Reads one step from what follows its first word on the line.
 ghost use Rattle.std.specs.Prelude.{◌≡◌};
 ghost use Rattle.script.specs.Asked.{asked, turn};
-ghost use Rattle.script.specs.Calls.{append_at, call_at, more_sections, sections_at, step_at, sync_at, work_at};
+ghost use Rattle.script.specs.Calls.{call_at, more_sections, sections_at, step_at, work_at};
 ghost use Rattle.script.specs.Told.{Tells};
 ghost use Rattle.script.specs.Words.{left};
 
@@ -29,21 +29,6 @@ fn sections(heap: Global, line: &mut Line) -> Result<Vec<u64>, Failure<Problem>>
     Ok(sections)
 }
 
-fn sync(heap: Global, line: &mut Line) -> Result<Call, Failure<Problem>>
-    ensures { Tells (λ c. (asked c, left line.new)) result (sync_at (left line.old)) }
-{
-    let sections = sections(heap, line)?;
-    Ok(Call::Sync { sections })
-}
-
-fn append(heap: Global, line: &mut Line) -> Result<Call, Failure<Problem>>
-    ensures { Tells (λ c. (asked c, left line.new)) result (append_at (left line.old)) }
-{
-    let section = line.number()?;
-    let item = line.item(heap)?;
-    Ok(Call::Append { section, item })
-}
-
 fn call(heap: Global, verb: Verb, line: &mut Line) -> Result<Call, Failure<Problem>>
     ensures { Tells (λ c. (asked c, left line.new)) result (call_at verb (left line.old)) }
 {
@@ -58,8 +43,15 @@ fn call(heap: Global, verb: Verb, line: &mut Line) -> Result<Call, Failure<Probl
             let (section, length) = line.pair()?;
             Ok(Call::Lose { section, length })
         }
-        Verb::Append => append(heap, line),
-        Verb::Sync => sync(heap, line),
+        Verb::Append => {
+            let section = line.number()?;
+            let item = line.item(heap)?;
+            Ok(Call::Append { section, item })
+        }
+        Verb::Sync => {
+            let sections = sections(heap, line)?;
+            Ok(Call::Sync { sections })
+        }
         Verb::Get => {
             let (section, offset) = line.pair()?;
             Ok(Call::Get { section, offset })
