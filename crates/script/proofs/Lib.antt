@@ -1,9 +1,7 @@
 pub mod Cuts
 pub mod Decimals
 pub mod Hexes
-pub mod Lents
 pub mod LineTurns
+pub mod Pairs
 pub mod SectionTurns
 pub mod StepLines
-pub mod Tellings
-pub mod VerbWords

@@ -3,10 +3,9 @@ use Rattle.std.proofs.Common.{◌≡◌, ℕ, zero, suc, ◌+◌, ◌<◌, ◌�
 use Rattle.std.specs.List.{prefix_len}
 use Rattle.std.specs.Str.{bytes_eq}
 use Rattle.std.proofs.lemmas.Bool.{cond-true, cond-false, eqb-false, not-true, or_parts}
-use Rattle.script.specs.Bytes.{has}
+use Rattle.script.specs.Bytes.{is_blank, of_word}
 use Rattle.script.specs.Calls.{more_sections, one_more, sections_by}
 use Rattle.script.specs.Words.{after_word, empty, number_at, skip, word_at}
-use Rattle.script.specs.declared.bytes.Class.TheVariants.{Blank, OfWord}
 use Rattle.script.specs.declared.problems.Problem.{Problem}
 
 -- the answer for the whole line, where xs has been read and the rest is still to come
@@ -20,7 +19,7 @@ adding_one xs n (Err p) = refl
 
 word_shortens : (bs : List ℕ) → length (word_at bs) + length (after_word bs) ≤ length bs
 word_shortens bs =
-    omega (arith, simp length-append at (ap length (take-append-drop (prefix_len (has OfWord) (skip bs)) (skip bs))), length-drop (prefix_len (has Blank) bs) bs)
+    omega (arith, simp length-append at (ap length (take-append-drop (prefix_len of_word (skip bs)) (skip bs))), length-drop (prefix_len is_blank bs) bs)
 
 -- where a section comes next, the line is shorter after it
 pub section_shortens : (bs : List ℕ) → true ≡ more_sections bs → length (after_word bs) < length bs

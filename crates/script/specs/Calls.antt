@@ -2,10 +2,11 @@
 use Rattle.std.specs.Prelude.{ℕ, zero, suc, Bool, cond, not, ◌||◌, List, [], ◌∷◌, length, Some, None, Ok, Err, codes, Option, Result}
 use Rattle.std.specs.Str.{bytes_eq}
 use Rattle.script.specs.Asked.{Asked, asking, Turn, turning}
-use Rattle.script.specs.Verbs.{verb_of}
+use Rattle.script.specs.Told.{told}
+use Rattle.script.specs.Verbs.{verb_named}
 use Rattle.script.specs.Words.{after_word, empty, item_at, last_number_at, number_at, pair_at, word_at}
 use Rattle.script.specs.declared.problems.Problem.{Problem}
-use Rattle.script.specs.declared.problems.Problem.TheVariants.{UnknownWord, WordTooMany}
+use Rattle.script.specs.declared.problems.Problem.TheVariants.{WordTooMany}
 use Rattle.script.specs.declared.steps.Verb.{Verb}
 use Rattle.script.specs.declared.steps.Verb.TheVariants.{Open, InitAtMost, Close, Lose, Append, Sync, Get, Size, SectionsFrom, Prune, Replay, Next, Finish}
 
@@ -15,13 +16,11 @@ Read = Result (Asked × List ℕ) Problem
 
 -- a step with one number
 abbrev pub with_one : Verb → List ℕ → Result ℕ Problem → Read
-with_one v rest (Ok n) = Ok (asking v (n ∷ []) [], rest)
-with_one v rest (Err p) = Err p
+with_one v rest r = told (λ n. (asking v (n ∷ []) [], rest)) r
 
 -- a step with two numbers
 abbrev pub with_two : Verb → List ℕ → Result (ℕ × ℕ) Problem → Read
-with_two v rest (Ok (m, n)) = Ok (asking v (m ∷ n ∷ []) [], rest)
-with_two v rest (Err p) = Err p
+with_two v rest r = told (λ p. (asking v (p.0 ∷ p.1 ∷ []) [], rest)) r
 
 -- an append, of a section and an item
 abbrev pub with_item : Result ℕ Problem → Result (List ℕ × List ℕ) Problem → Read
@@ -54,8 +53,7 @@ sections_at bs = sections_by (length bs) bs
 
 -- a sync of these sections
 abbrev pub with_sections : Result (List ℕ × List ℕ) Problem → Read
-with_sections (Ok (ns, rest)) = Ok (asking Sync ns [], rest)
-with_sections (Err p) = Err p
+with_sections r = told (λ p. (asking Sync p.0 [], p.1)) r
 
 -- all the sections that follow
 abbrev pub sync_at : List ℕ → Read
@@ -78,24 +76,18 @@ call_at Next bs = Ok (asking Next [] [], bs)
 call_at Finish bs = Ok (asking Finish [] [], bs)
 
 -- a word that names no verb is no step
-abbrev pub verb_then : Option Verb → List ℕ → Read
-verb_then None bs = Err UnknownWord
-verb_then (Some v) bs = call_at v bs
-
--- a work buffer of this length
-abbrev pub lent : Result ℕ Problem → Result (Option ℕ) Problem
-lent (Ok n) = Ok (Some n)
-lent (Err p) = Err p
+abbrev pub verb_then : Result Verb Problem → List ℕ → Read
+verb_then (Ok v) bs = call_at v bs
+verb_then (Err p) bs = Err p
 
 -- the work buffer that ends a step's line, where there is one
 abbrev pub work_at : List ℕ → Result (Option ℕ) Problem
 work_at bs =
-    cond (empty (word_at bs)) (Ok None) (cond (bytes_eq (word_at bs) (codes "with")) (lent (last_number_at (after_word bs))) (Err WordTooMany))
+    cond (empty (word_at bs)) (Ok None) (cond (bytes_eq (word_at bs) (codes "with")) (told Some (last_number_at (after_word bs))) (Err WordTooMany))
 
 -- a step with its work buffer and its line
 abbrev pub with_work : ℕ → Asked → Result (Option ℕ) Problem → Result Turn Problem
-with_work line a (Ok work) = Ok (turning a work line)
-with_work line a (Err p) = Err p
+with_work line a r = told (λ work. turning a work line) r
 
 -- the work buffer stands after what the step asks for
 abbrev pub step_of : ℕ → Read → Result Turn Problem
@@ -104,4 +96,4 @@ step_of line (Err p) = Err p
 
 -- the step of a line whose first word is w
 abbrev pub step_at : ℕ → List ℕ → List ℕ → Result Turn Problem
-step_at line w bs = step_of line (verb_then (verb_of w) bs)
+step_at line w bs = step_of line (verb_then (verb_named w) bs)

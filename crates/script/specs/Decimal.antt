@@ -1,23 +1,17 @@
 -- The number that decimal digits write, and what reading a number answers.
-use Rattle.std.specs.Prelude.{ℕ, ◌+◌, ◌-◌, ◌*◌, ◌^◌, Bool, cond, ◌&&◌, List, [], ◌∷◌, length, Ok, Err, Result, ◌==◌, nat_lt}
-use Rattle.std.specs.List.{prefix_len}
-use Rattle.script.specs.Bytes.{has}
-use Rattle.script.specs.declared.bytes.Class.TheVariants.{Digit}
+use Rattle.std.specs.Prelude.{ℕ, ◌+◌, ◌-◌, ◌*◌, ◌^◌, Bool, cond, ◌&&◌, List, length, Ok, Err, Result, nat_lt}
+use Rattle.std.specs.List.{fold, list_all}
+use Rattle.script.specs.Bytes.{is_digit}
 use Rattle.script.specs.declared.problems.Problem.{Problem}
 use Rattle.script.specs.declared.problems.Problem.TheVariants.{NotANumber, NumberTooLarge}
 
--- the number, where n has been read so far
-abbrev pub decimal_after : ℕ → List ℕ → ℕ
-decimal_after n [] = n
-decimal_after n (b ∷ bs) = decimal_after (n * 10 + (b - 48)) bs
-
 -- the number that digits write
 abbrev pub decimal : List ℕ → ℕ
-decimal bs = decimal_after 0 bs
+decimal bs = fold (λ n b. n * 10 + (b - 48)) 0 bs
 
 -- one or more digits, and nothing else
 abbrev pub numeral : List ℕ → Bool
-numeral bs = nat_lt 0 (length bs) && prefix_len (has Digit) bs == length bs
+numeral bs = nat_lt 0 (length bs) && list_all is_digit bs
 
 -- leading zeros do not matter: only the value has to fit 64 bits
 abbrev pub number_of : List ℕ → Result ℕ Problem

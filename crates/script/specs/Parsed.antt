@@ -1,18 +1,12 @@
 -- The script that a text holds, or its first mistake.
-use Rattle.std.specs.Prelude.{◌≡◌, ℕ, ◌+◌, List, [], ◌∷◌, Ok, Err, Result}
+use Rattle.std.specs.Prelude.{ℕ, ◌+◌, List, [], ◌∷◌, Ok, Err, Result}
 use Rattle.script.specs.Draft.{Drafted, Whole, finished, line_taken, start, whole}
 use Rattle.script.specs.Lines.{lines}
+use Rattle.script.specs.Told.{Tells, mistaken}
 use Rattle.script.specs.declared.problems.Failure.{Failure}
-use Rattle.script.specs.declared.problems.Failure.TheVariants as failure
 use Rattle.script.specs.declared.problems.Mistake.{Mistake}
 use Rattle.script.specs.declared.problems.Problem.{Problem}
-use Rattle.script.specs.declared.problems.Stop.{Stop}
-use Rattle.script.specs.declared.problems.Stop.TheVariants.{Wrong, OutOfMemory}
 use Rattle.script.specs.declared.steps.Script.{Script}
-
--- the parts put together
-abbrev pub mistaken : ℕ → Problem → Mistake
-mistaken n p = record { line = n; problem = p }
 
 -- goes on after line n, or stops there
 abbrev pub go_on : ℕ → Result Drafted Problem → (Drafted → Result Drafted Mistake) → Result Drafted Mistake
@@ -34,12 +28,5 @@ abbrev pub script_of : List ℕ → Result Whole Mistake
 script_of text = closed (lines_taken start 0 (lines text))
 
 -- r answers s; nothing is said where memory ran out
-abbrev pub Parses : Result Script Failure → Result Whole Mistake → Type 0
-Parses (Ok script) s = s ≡ Ok (whole script)
-Parses (Err (failure.Mistake m)) s = s ≡ Err m
-Parses (Err failure.Memory) s = Unit {0}
-
--- the same failure, told with its line
-abbrev pub failure_at : ℕ → Stop → Failure
-failure_at n (Wrong p) = failure.Mistake (mistaken n p)
-failure_at n OutOfMemory = failure.Memory
+abbrev pub Parses : Result Script (Failure Mistake) → Result Whole Mistake → Type 0
+Parses r s = Tells whole r s

@@ -1,6 +1,9 @@
 -- The word of each verb.
-use Rattle.std.specs.Prelude.{ℕ, cond, List, [], ◌∷◌, Some, None, codes, Option}
+use Rattle.std.specs.Prelude.{ℕ, List, [], ◌∷◌, codes, find, Result}
+use Rattle.std.specs.Option.{ok_or}
 use Rattle.std.specs.Str.{bytes_eq}
+use Rattle.script.specs.declared.problems.Problem.{Problem}
+use Rattle.script.specs.declared.problems.Problem.TheVariants.{UnknownWord}
 use Rattle.script.specs.declared.steps.Verb.{Verb}
 use Rattle.script.specs.declared.steps.Verb.TheVariants.{Open, InitAtMost, Close, Lose, Append, Sync, Get, Size, SectionsFrom, Prune, Replay, Next, Finish}
 
@@ -24,11 +27,6 @@ verb_word Finish = codes "finish"
 abbrev pub verbs : List Verb
 verbs = Open ∷ InitAtMost ∷ Close ∷ Lose ∷ Append ∷ Sync ∷ Get ∷ Size ∷ SectionsFrom ∷ Prune ∷ Replay ∷ Next ∷ Finish ∷ []
 
--- the first of the verbs that has this word
-abbrev pub verb_among : List Verb → List ℕ → Option Verb
-verb_among [] w = None
-verb_among (v ∷ vs) w = cond (bytes_eq w (verb_word v)) (Some v) (verb_among vs w)
-
 -- the verb that a word names
-abbrev pub verb_of : List ℕ → Option Verb
-verb_of w = verb_among verbs w
+abbrev pub verb_named : List ℕ → Result Verb Problem
+verb_named w = ok_or (find (λ v. bytes_eq w (verb_word v)) verbs) UnknownWord

@@ -1,12 +1,12 @@
 -- How words, numbers and items are cut off the front of a line; blanks before one are passed over.
-use Rattle.std.specs.Prelude.{ℕ, Bool, false, cond, List, [], ◌∷◌, length, take, drop, Ok, Err, codes, Result, ◌==◌}
+use Rattle.std.specs.Prelude.{ℕ, Bool, cond, List, [], length, take, drop, Ok, Err, codes, Result, ◌==◌}
 use Rattle.std.specs.List.{prefix_len}
 use Rattle.std.specs.Str.{bytes_eq}
-use Rattle.script.specs.Bytes.{has}
+use Rattle.script.specs.Bytes.{first_is, is_blank, of_word}
 use Rattle.script.specs.Decimal.{number_of}
 use Rattle.script.specs.Hex.{hex_of}
 use Rattle.script.specs.Quotes.{quoted_of}
-use Rattle.script.specs.declared.bytes.Class.TheVariants.{Blank, OfWord}
+use Rattle.script.specs.Told.{told}
 use Rattle.script.specs.declared.problems.Problem.{Problem}
 use Rattle.script.specs.declared.problems.Problem.TheVariants.{NumberMissing, ItemMissing, WordTooMany}
 use Rattle.script.specs.declared.words.Line.{Line}
@@ -17,15 +17,15 @@ left line = line.rest.now
 
 -- without the blanks and tabs at the front
 abbrev pub skip : List ℕ → List ℕ
-skip bs = drop (prefix_len (has Blank) bs) bs
+skip bs = drop (prefix_len is_blank bs) bs
 
 -- the longest run without a blank, a tab or `#`
 abbrev pub word_at : List ℕ → List ℕ
-word_at bs = take (prefix_len (has OfWord) (skip bs)) (skip bs)
+word_at bs = take (prefix_len of_word (skip bs)) (skip bs)
 
 -- what follows that word
 abbrev pub after_word : List ℕ → List ℕ
-after_word bs = drop (prefix_len (has OfWord) (skip bs)) (skip bs)
+after_word bs = drop (prefix_len of_word (skip bs)) (skip bs)
 
 -- there is nothing
 abbrev pub empty : List ℕ → Bool
@@ -55,13 +55,11 @@ plain_of w = cond (bytes_eq w []) (Err ItemMissing) (cond (bytes_eq w (codes "-"
 
 -- a quote stands at the front
 abbrev pub quote_first : List ℕ → Bool
-quote_first [] = false
-quote_first (b ∷ bs) = b == 34
+quote_first bs = first_is (λ b. b == 34) bs
 
 -- an answer, with what is left of the line
 abbrev pub leaving : {X : Type 0} → List ℕ → Result X Problem → Result (X × List ℕ) Problem
-leaving rest (Ok x) = Ok (x, rest)
-leaving rest (Err p) = Err p
+leaving rest r = told (λ x. (x, rest)) r
 
 -- an item and what follows it: quoted, or else a word
 abbrev pub item_at : List ℕ → Result (List ℕ × List ℕ) Problem

@@ -1,47 +1,62 @@
-// The classes of bytes that words, lines and texts are made of, and the longest run of one class.
-ghost use Rattle.std.specs.Prelude.{◌≡◌, ◌≤◌, length};
-ghost use Rattle.std.specs.List.{prefix_len};
-ghost use Rattle.script.specs.Bytes.{has};
+// Which bytes words, lines and texts are made of, and the longest run of them at the front.
+ghost use Rattle.std.specs.Prelude.{◌≡◌, ◌≤◌, ℕ, Bool, length};
+ghost use Rattle.std.specs.List.{list_all, prefix_len};
+ghost use Rattle.script.specs.Bytes.{Agrees, is_blank, is_digit, is_printable, of_line, of_quote, of_word};
 
-#[derive(Clone, Copy)]
-pub enum Class {
-    // Any byte but the one that ends a line.
-    OfLine,
-    // What separates words.
-    Blank,
-    // Any byte but a blank and the one that starts a comment.
-    OfWord,
-    Digit,
-    // Any byte but the one that closes a quoted text.
-    OfQuote,
-    // What a quoted text may hold.
-    Printable,
+// Any byte but the one that ends a line.
+pub(crate) fn of_line(b: u8) -> bool
+    ensures { result ≡ of_line b }
+{
+    b != b'\n'
 }
 
-impl Class {
-    pub fn contains(self, b: u8) -> bool
-        ensures { result ≡ has self b }
-    {
-        match self {
-            Class::OfLine => b != b'\n',
-            Class::Blank => b == b' ' || b == b'\t',
-            Class::OfWord => b != b' ' && b != b'\t' && b != b'#',
-            Class::Digit => b >= b'0' && b <= b'9',
-            Class::OfQuote => b != b'"',
-            Class::Printable => b >= 0x20 && b <= 0x7e,
-        }
-    }
+// What separates words.
+pub(crate) fn is_blank(b: u8) -> bool
+    ensures { result ≡ is_blank b }
+{
+    matches!(b, b' ' | b'\t')
 }
 
-// How many bytes at the front are of the class.
-pub fn run(bytes: &[u8], class: Class) -> usize
-    ensures count { result ≡ prefix_len (has class) bytes.now }
+// Any byte but a blank and the one that starts a comment.
+pub(crate) fn of_word(b: u8) -> bool
+    ensures { result ≡ of_word b }
+{
+    !is_blank(b) && b != b'#'
+}
+
+pub(crate) fn is_digit(b: u8) -> bool
+    ensures { result ≡ is_digit b }
+{
+    b.is_ascii_digit()
+}
+
+// Any byte but the one that closes a quoted text.
+pub(crate) fn of_quote(b: u8) -> bool
+    ensures { result ≡ of_quote b }
+{
+    b != b'"'
+}
+
+// What a quoted text may hold.
+pub(crate) fn is_printable(b: u8) -> bool
+    ensures { result ≡ is_printable b }
+{
+    matches!(b, b' '..=b'~')
+}
+
+// How many bytes at the front are of the kind that `kind` tells.
+pub(crate) fn run<F: Fn(u8) -> bool>(bytes: &[u8], kind: F) -> usize
+    requires { F.IsAlwaysCallable kind }
+    ensures count { (p : ℕ → Bool) → Agrees (F.post kind) p → result ≡ prefix_len p bytes.now }
     ensures within { result ≤ length bytes.now }
 {
-    for (i, b) in bytes.iter().enumerate() {
-        if !class.contains(*b) {
-            return i;
-        }
-    }
-    bytes.len()
+    bytes.iter().take_while(|b| kind(**b)).count()
+}
+
+// Whether all bytes are of that kind.
+pub(crate) fn all<F: Fn(u8) -> bool>(bytes: &[u8], kind: F) -> bool
+    requires { F.IsAlwaysCallable kind }
+    ensures { (p : ℕ → Bool) → Agrees (F.post kind) p → result ≡ list_all p bytes.now }
+{
+    bytes.iter().all(|b| kind(*b))
 }

@@ -1,38 +1,53 @@
-// Cuts a text into lines.
-ghost use Rattle.std.specs.Prelude.{◌≡◌, ◌+◌, drop};
-ghost use Rattle.script.specs.Lines.{after_line, line_at, without_return};
+// The lines of a text, without what ends them.
+ghost use Rattle.std.specs.Prelude.{◌≡◌};
+ghost use Rattle.std.specs.Iterator.{YieldsFirstRef, item_count};
+ghost use Rattle.script.specs.Lines.{after_line, line_at, lines, without_return};
 
-use crate::bytes::{Class, run};
+use crate::bytes::{of_line, run};
 
-fn trimmed(line: &[u8]) -> &[u8]
+fn without_return(line: &[u8]) -> &[u8]
     ensures { result.now ≡ without_return line.now }
 {
-    if line.is_empty() {
-        return line;
-    }
-    let last = line.len() - 1;
-    if line[last] == b'\r' {
-        &line[0..last]
-    } else {
-        line
-    }
+    line.strip_suffix(b"\r").unwrap_or(line)
 }
 
-// What follows the byte at `end`, which the last line lacks.
-fn beyond(text: &[u8], end: usize) -> &[u8]
-    ensures { result.now ≡ drop (end + 1) text.now }
-{
-    if end < text.len() {
-        &text[end + 1..]
-    } else {
-        b""
-    }
-}
-
-pub fn cut_line(text: &[u8]) -> (&[u8], &[u8])
+// The first line, and what follows it.
+fn cut_line(text: &[u8]) -> (&[u8], &[u8])
     ensures line { result.0.now ≡ line_at text.now }
     ensures rest { result.1.now ≡ after_line text.now }
 {
-    let end = run(text, Class::OfLine);
-    (trimmed(&text[0..end]), beyond(text, end))
+    let end = run(text, of_line);
+    let rest = text.get(end + 1..).unwrap_or(b"");
+    (without_return(&text[..end]), rest)
+}
+
+// The lines of the rest of a text.
+#[derive(Drop)]
+pub(crate) struct Lines<'a> {
+    rest: &'a [u8],
+}
+
+impl<'a> Lines<'a> {
+    pub(crate) fn new(text: &'a [u8]) -> Lines<'a>
+        ensures { result.rest.now ≡ text.now }
+    {
+        Lines { rest: text }
+    }
+}
+
+impl<'a> Iterator for Lines<'a> {
+    type Item = &'a [u8];
+
+    ghost next_gives = { YieldsFirstRef (λ s. lines s.rest.now) };
+
+    ghost remaining = { item_count (λ s. lines s.rest.now) };
+
+    fn next(&mut self) -> Option<&'a [u8]> {
+        if self.rest.is_empty() {
+            return None;
+        }
+        let (line, rest) = cut_line(self.rest);
+        self.rest = rest;
+        Some(line)
+    }
 }

@@ -1,37 +1,23 @@
 // Reads a decimal number of any length, and says whether it fits 64 bits.
-ghost use Rattle.std.specs.Prelude.{◌≡◌, ◌^◌, ◌<◌};
-ghost use Rattle.std.specs.Option.{SomeIff};
-ghost use Rattle.script.specs.Decimal.{decimal, number_of, numeral};
+ghost use Rattle.std.specs.Prelude.{◌≡◌};
+ghost use Rattle.script.specs.Decimal.{number_of, numeral};
 
-use crate::bytes::{Class, run};
+use crate::bytes::{all, is_digit};
 use crate::problems::Problem;
+use std::str::from_utf8;
 
 fn is_numeral(word: &[u8]) -> bool
     ensures { result ≡ numeral word.now }
 {
-    !word.is_empty() && run(word, Class::Digit) == word.len()
+    !word.is_empty() && all(word, is_digit)
 }
 
-// A byte below `0` counts as none here, and `number` lets no such byte in.
-fn value(digits: &[u8]) -> Option<u64>
-    ensures { SomeIff result (decimal digits.now < 2 ^ 64) (decimal digits.now) }
-{
-    let mut n: u64 = 0;
-    for b in digits {
-        let tens = n.checked_mul(10)?;
-        n = tens.checked_add(u64::from(b.saturating_sub(b'0')))?;
-    }
-    Some(n)
-}
-
-pub fn number(word: &[u8]) -> Result<u64, Problem>
+pub(crate) fn number(word: &[u8]) -> Result<u64, Problem>
     ensures { result ≡ number_of word.now }
 {
     if !is_numeral(word) {
         return Err(Problem::NotANumber);
     }
-    match value(word) {
-        Some(n) => Ok(n),
-        None => Err(Problem::NumberTooLarge),
-    }
+    let digits = from_utf8(word).unwrap();
+    digits.parse().map_err(|_| Problem::NumberTooLarge)
 }

@@ -1,7 +1,7 @@
 // What can be wrong with a history file, and how it is told.
 ghost use Rattle.std.specs.Prelude.{◌≡◌};
-ghost use Rattle.script.specs.declared.problems.Failure.TheVariants.{Memory};
-ghost use Rattle.script.specs.declared.problems.Stop.TheVariants.{OutOfMemory, Wrong};
+ghost use Rattle.script.specs.Told.{failure_at};
+ghost use Rattle.script.specs.declared.problems.Failure.TheVariants.{Memory, Mistake};
 
 use std::alloc::{AllocError, AllocFailed};
 use std::fmt;
@@ -73,11 +73,22 @@ impl fmt::Display for Mistake {
     }
 }
 
-// Why a history file gives no script.
+// Why a history file gives no script; what is wrong is told with its line, or alone by what does not know the line.
 #[derive(Clone, Copy, PartialEq, Eq, Debug)]
-pub enum Failure {
-    Mistake(Mistake),
+pub enum Failure<M = Mistake> {
+    Mistake(M),
     Memory,
+}
+
+impl Failure<Problem> {
+    pub(crate) fn at_line(self, line: u64) -> Failure
+        ensures { result ≡ failure_at line self }
+    {
+        match self {
+            Failure::Mistake(problem) => Failure::Mistake(Mistake { line, problem }),
+            Failure::Memory => Failure::Memory,
+        }
+    }
 }
 
 impl fmt::Display for Failure {
@@ -89,49 +100,26 @@ impl fmt::Display for Failure {
     }
 }
 
-impl From<AllocError> for Failure {
+impl From<Problem> for Failure<Problem> {
+    ghost from_gives = { λ p r. r ≡ Mistake p };
+
+    fn from(p: Problem) -> Failure<Problem> {
+        Failure::Mistake(p)
+    }
+}
+
+impl<M> From<AllocError> for Failure<M> {
     ghost from_gives = { λ _ r. r ≡ Memory };
 
-    fn from(_e: AllocError) -> Failure {
+    fn from(_e: AllocError) -> Failure<M> {
         Failure::Memory
     }
 }
 
-impl<T: Drop> From<AllocFailed<T>> for Failure {
+impl<M, T: Drop> From<AllocFailed<T>> for Failure<M> {
     ghost from_gives = { λ _ r. r ≡ Memory };
 
-    fn from(_e: AllocFailed<T>) -> Failure {
+    fn from(_e: AllocFailed<T>) -> Failure<M> {
         Failure::Memory
-    }
-}
-
-// Why a line is not read, told by the functions that do not know its number.
-#[derive(Clone, Copy)]
-pub enum Stop {
-    Wrong(Problem),
-    OutOfMemory,
-}
-
-impl From<Problem> for Stop {
-    ghost from_gives = { λ p r. r ≡ Wrong p };
-
-    fn from(problem: Problem) -> Stop {
-        Stop::Wrong(problem)
-    }
-}
-
-impl From<AllocError> for Stop {
-    ghost from_gives = { λ _ r. r ≡ OutOfMemory };
-
-    fn from(_e: AllocError) -> Stop {
-        Stop::OutOfMemory
-    }
-}
-
-impl<T: Drop> From<AllocFailed<T>> for Stop {
-    ghost from_gives = { λ _ r. r ≡ OutOfMemory };
-
-    fn from(_e: AllocFailed<T>) -> Stop {
-        Stop::OutOfMemory
     }
 }

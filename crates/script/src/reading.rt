@@ -1,13 +1,13 @@
 // Reads one step from what follows its first word on the line.
 ghost use Rattle.std.specs.Prelude.{◌≡◌};
 ghost use Rattle.script.specs.Asked.{asked, turn};
-ghost use Rattle.script.specs.Calls.{append_at, call_at, more_sections, sections_at, step_at, sync_at, work_at};
+ghost use Rattle.script.specs.Calls.{call_at, more_sections, sections_at, step_at, work_at};
 ghost use Rattle.script.specs.Told.{Tells};
 ghost use Rattle.script.specs.Words.{left};
 
-use crate::problems::{Problem, Stop};
+use crate::problems::{Failure, Problem};
 use crate::steps::{Call, Step, Verb};
-use crate::words::{Line, is};
+use crate::words::Line;
 use std::alloc::Global;
 
 // Whether a section comes next, and not the end or the work buffer.
@@ -15,11 +15,10 @@ fn section_next(line: &Line) -> bool
     ensures { result ≡ more_sections (left line.now) }
 {
     let mut ahead = *line;
-    let word = ahead.word();
-    !(word.is_empty() || is(word, "with"))
+    !matches!(ahead.word(), b"" | b"with")
 }
 
-fn sections(heap: Global, line: &mut Line) -> Result<Vec<u64>, Stop>
+fn sections(heap: Global, line: &mut Line) -> Result<Vec<u64>, Failure<Problem>>
     ensures { Tells (λ v. (v.items, left line.new)) result (sections_at (left line.old)) }
 {
     let mut sections = Vec::new(heap);
@@ -30,22 +29,7 @@ fn sections(heap: Global, line: &mut Line) -> Result<Vec<u64>, Stop>
     Ok(sections)
 }
 
-fn sync(heap: Global, line: &mut Line) -> Result<Call, Stop>
-    ensures { Tells (λ c. (asked c, left line.new)) result (sync_at (left line.old)) }
-{
-    let sections = sections(heap, line)?;
-    Ok(Call::Sync { sections })
-}
-
-fn append(heap: Global, line: &mut Line) -> Result<Call, Stop>
-    ensures { Tells (λ c. (asked c, left line.new)) result (append_at (left line.old)) }
-{
-    let section = line.number()?;
-    let item = line.item(heap)?;
-    Ok(Call::Append { section, item })
-}
-
-fn call(heap: Global, verb: Verb, line: &mut Line) -> Result<Call, Stop>
+fn call(heap: Global, verb: Verb, line: &mut Line) -> Result<Call, Failure<Problem>>
     ensures { Tells (λ c. (asked c, left line.new)) result (call_at verb (left line.old)) }
 {
     match verb {
@@ -59,8 +43,15 @@ fn call(heap: Global, verb: Verb, line: &mut Line) -> Result<Call, Stop>
             let (section, length) = line.pair()?;
             Ok(Call::Lose { section, length })
         }
-        Verb::Append => append(heap, line),
-        Verb::Sync => sync(heap, line),
+        Verb::Append => {
+            let section = line.number()?;
+            let item = line.item(heap)?;
+            Ok(Call::Append { section, item })
+        }
+        Verb::Sync => {
+            let sections = sections(heap, line)?;
+            Ok(Call::Sync { sections })
+        }
         Verb::Get => {
             let (section, offset) = line.pair()?;
             Ok(Call::Get { section, offset })
@@ -90,23 +81,25 @@ fn call(heap: Global, verb: Verb, line: &mut Line) -> Result<Call, Stop>
 fn work(line: &mut Line) -> Result<Option<u64>, Problem>
     ensures { result ≡ work_at (left line.old) }
 {
-    let word = line.word();
-    if word.is_empty() {
-        return Ok(None);
+    match line.word() {
+        b"" => Ok(None),
+        b"with" => {
+            let length = line.last(Line::number)?;
+            Ok(Some(length))
+        }
+        _ => Err(Problem::WordTooMany),
     }
-    if !is(word, "with") {
-        return Err(Problem::WordTooMany);
-    }
-    let length = line.last_number()?;
-    Ok(Some(length))
 }
 
-pub fn step(heap: Global, number: u64, word: &[u8], line: &mut Line) -> Result<Step, Stop>
+pub(crate) fn step(
+    heap: Global,
+    number: u64,
+    word: &[u8],
+    line: &mut Line,
+) -> Result<Step, Failure<Problem>>
     ensures { Tells turn result (step_at number word.now (left line.old)) }
 {
-    let Some(verb) = Verb::find(word) else {
-        return Err(Stop::Wrong(Problem::UnknownWord));
-    };
+    let verb = Verb::try_from(word)?;
     let call = call(heap, verb, line)?;
     let work = work(line)?;
     Ok(Step {

@@ -1,17 +1,17 @@
 // What has been read of a history file so far, and how a line adds to it.
 ghost use Rattle.std.specs.Prelude.{◌≡◌};
-ghost use Rattle.script.specs.Draft.{drafted, finished, given, kind_at, line_taken, may_set, medium_at, setting_of, setting_taken, start, whole};
+ghost use Rattle.script.specs.Draft.{drafted, finished, given, kind_at, kind_of, line_taken, may_set, medium_at, setting_of, setting_taken, start, whole};
 ghost use Rattle.script.specs.Told.{Tells, told};
 ghost use Rattle.script.specs.Words.{left};
 
-use crate::problems::{Problem, Stop};
+use crate::problems::{Failure, Problem};
 use crate::reading::step;
 use crate::steps::{Kind, Medium, Script, Step};
-use crate::words::{Line, is};
+use crate::words::Line;
 use std::alloc::Global;
 
 #[derive(Clone, Copy)]
-pub enum Setting {
+pub(crate) enum Setting {
     Kind,
     Storage,
     Work,
@@ -21,54 +21,47 @@ impl Setting {
     fn find(word: &[u8]) -> Option<Setting>
         ensures { result ≡ setting_of word.now }
     {
-        if is(word, "kind") {
-            Some(Setting::Kind)
-        } else if is(word, "storage") {
-            Some(Setting::Storage)
-        } else if is(word, "work") {
-            Some(Setting::Work)
-        } else {
-            None
+        match word {
+            b"kind" => Some(Setting::Kind),
+            b"storage" => Some(Setting::Storage),
+            b"work" => Some(Setting::Work),
+            _ => None,
         }
+    }
+}
+
+fn kind_named(word: &[u8]) -> Result<Kind, Problem>
+    ensures { result ≡ kind_of word.now }
+{
+    match word {
+        b"mark" => Ok(Kind::Mark),
+        b"line" => Ok(Kind::Line),
+        b"" => Err(Problem::KindMissing),
+        _ => Err(Problem::UnknownKind),
     }
 }
 
 fn read_kind(line: &mut Line) -> Result<Kind, Problem>
     ensures { result ≡ kind_at (left line.old) }
 {
-    let word = line.word();
-    let kind = if is(word, "mark") {
-        Kind::Mark
-    } else if is(word, "line") {
-        Kind::Line
-    } else if word.is_empty() {
-        return Err(Problem::KindMissing);
-    } else {
-        return Err(Problem::UnknownKind);
-    };
-    line.end()?;
-    Ok(kind)
+    line.last(|line| kind_named(line.word()))
 }
 
 fn read_medium(line: &mut Line) -> Result<Medium, Problem>
     ensures { result ≡ medium_at (left line.old) }
 {
-    let word = line.word();
-    if is(word, "slots") {
-        let (area, wish) = line.last_pair()?;
-        Ok(Medium::Slots { area, wish })
-    } else if is(word, "pages") {
-        let area = line.last_number()?;
-        Ok(Medium::Pages { area })
-    } else if word.is_empty() {
-        Err(Problem::StorageMissing)
-    } else {
-        Err(Problem::UnknownStorage)
+    match line.word() {
+        b"slots" => line
+            .last(Line::pair)
+            .map(|(area, wish)| Medium::Slots { area, wish }),
+        b"pages" => line.last(Line::number).map(|area| Medium::Pages { area }),
+        b"" => Err(Problem::StorageMissing),
+        _ => Err(Problem::UnknownStorage),
     }
 }
 
 #[derive(Drop)]
-pub struct Draft {
+pub(crate) struct Draft {
     kind: Option<Kind>,
     medium: Option<Medium>,
     work: Option<u64>,
@@ -76,7 +69,7 @@ pub struct Draft {
 }
 
 impl Draft {
-    pub fn new(heap: Global) -> Draft
+    pub(crate) fn new(heap: Global) -> Draft
         ensures { drafted result ≡ start }
     {
         Draft {
@@ -116,13 +109,18 @@ impl Draft {
         match setting {
             Setting::Kind => self.kind = Some(read_kind(line)?),
             Setting::Storage => self.medium = Some(read_medium(line)?),
-            Setting::Work => self.work = Some(line.last_number()?),
+            Setting::Work => self.work = Some(line.last(Line::number)?),
         }
         Ok(())
     }
 
     // Takes the line with this number.
-    pub fn take(&mut self, heap: Global, number: u64, bytes: &[u8]) -> Result<(), Stop>
+    pub(crate) fn take(
+        &mut self,
+        heap: Global,
+        number: u64,
+        bytes: &[u8],
+    ) -> Result<(), Failure<Problem>>
         ensures { Tells (λ _. drafted self.new) result (line_taken (drafted self.old) number bytes.now) }
     {
         let mut line = Line::new(bytes);
@@ -130,32 +128,24 @@ impl Draft {
         if word.is_empty() {
             return Ok(());
         }
-        if let Some(setting) = Setting::find(word) {
-            self.set(setting, &mut line)?;
-            return Ok(());
+        match Setting::find(word) {
+            Some(setting) => self.set(setting, &mut line)?,
+            None => self.steps.push(step(heap, number, word, &mut line)?)?,
         }
-        let step = step(heap, number, word, &mut line)?;
-        self.steps.push(step)?;
         Ok(())
     }
 
-    pub fn finish(self) -> Script
+    pub(crate) fn finish(self) -> Script
         ensures { whole result ≡ finished (drafted self) }
     {
-        let Draft {
-            kind,
-            medium,
-            work,
-            steps,
-        } = self;
         Script {
-            kind: kind.unwrap_or(Kind::Line),
-            medium: medium.unwrap_or(Medium::Slots {
+            kind: self.kind.unwrap_or(Kind::Line),
+            medium: self.medium.unwrap_or(Medium::Slots {
                 area: 4194304,
                 wish: 64,
             }),
-            work,
-            steps,
+            work: self.work,
+            steps: self.steps,
         }
     }
 }

@@ -1,9 +1,10 @@
 // What a history file says: the settings, and the steps with what each is asked to do.
 ghost use Rattle.std.specs.Prelude.{◌≡◌};
+ghost use Rattle.std.specs.Str.{bytes_eq};
 ghost use Rattle.script.specs.Asked.{verb_in};
-ghost use Rattle.script.specs.Verbs.{verb_of, verb_word};
+ghost use Rattle.script.specs.Verbs.{verb_named, verb_word};
 
-use std::str::from_utf8;
+use crate::problems::Problem;
 
 #[derive(Clone, Copy, PartialEq, Eq, Debug)]
 pub enum Kind {
@@ -19,7 +20,7 @@ pub enum Medium {
 
 // The names of the steps.
 #[derive(Clone, Copy)]
-pub enum Verb {
+pub(crate) enum Verb {
     Open,
     InitAtMost,
     Close,
@@ -36,7 +37,23 @@ pub enum Verb {
 }
 
 impl Verb {
-    pub fn word(self) -> &'static str
+    const ALL: [Verb; 13] = [
+        Verb::Open,
+        Verb::InitAtMost,
+        Verb::Close,
+        Verb::Lose,
+        Verb::Append,
+        Verb::Sync,
+        Verb::Get,
+        Verb::Size,
+        Verb::SectionsFrom,
+        Verb::Prune,
+        Verb::Replay,
+        Verb::Next,
+        Verb::Finish,
+    ];
+
+    pub(crate) fn word(self) -> &'static str
         ensures { result.now ≡ verb_word self }
     {
         match self {
@@ -56,35 +73,26 @@ impl Verb {
         }
     }
 
-    fn named(text: &str) -> Option<Verb>
-        ensures { result ≡ verb_of text.now }
+    // Whether a word of the file names this verb.
+    fn is_named(self, word: &[u8]) -> bool
+        ensures { result ≡ bytes_eq word.now (verb_word self) }
     {
-        match text {
-            "open" => Some(Verb::Open),
-            "init_at_most" => Some(Verb::InitAtMost),
-            "close" => Some(Verb::Close),
-            "lose" => Some(Verb::Lose),
-            "append" => Some(Verb::Append),
-            "sync" => Some(Verb::Sync),
-            "get" => Some(Verb::Get),
-            "size" => Some(Verb::Size),
-            "sections_from" => Some(Verb::SectionsFrom),
-            "prune" => Some(Verb::Prune),
-            "replay" => Some(Verb::Replay),
-            "next" => Some(Verb::Next),
-            "finish" => Some(Verb::Finish),
-            _ => None,
-        }
+        word == self.word().as_bytes()
     }
+}
 
-    // The verb that a word of the file names.
-    pub fn find(word: &[u8]) -> Option<Verb>
-        ensures { result ≡ verb_of word.now }
-    {
-        match from_utf8(word) {
-            Ok(text) => Verb::named(text),
-            Err(_) => None,
-        }
+// The verb that a word of the file names.
+impl TryFrom<&[u8]> for Verb {
+    type Error = Problem;
+
+    ghost try_from_gives = { λ word r. r ≡ verb_named word.now };
+
+    fn try_from(word: &[u8]) -> Result<Verb, Problem> {
+        Verb::ALL
+            .iter()
+            .find(|verb| verb.is_named(word))
+            .copied()
+            .ok_or(Problem::UnknownWord)
     }
 }
 

@@ -1,69 +1,58 @@
 // What is left of one line, from which words, numbers and items are cut off at the front.
-ghost use Rattle.std.specs.Prelude.{◌≡◌, vec_items, OnOk};
-ghost use Rattle.std.specs.Str.{bytes_eq};
+ghost use Rattle.std.specs.Prelude.{◌≡◌, vec_items, OnOk, Result};
+ghost use Rattle.std.specs.Fn.{FnOnceReturnsAtMut};
+ghost use Rattle.script.specs.declared.problems.Problem.{Problem};
+ghost use Rattle.script.specs.declared.words.Line.{Line};
 ghost use Rattle.script.specs.Told.{Tells};
-ghost use Rattle.script.specs.Words.{after_word, ended, item_at, last_number_at, last_pair_at, left, number_at, pair_at, plain_of, quote_first, skip, word_at};
+ghost use Rattle.script.specs.Words.{after_word, ended, item_at, left, number_at, pair_at, plain_of, skip, then_end, word_at};
 
-use crate::bytes::{Class, run};
+use crate::bytes::{is_blank, of_word, run};
 use crate::items::{from_hex, quoted};
 use crate::numbers::number;
-use crate::problems::{Problem, Stop};
+use crate::problems::{Failure, Problem};
 use std::alloc::Global;
 
 #[derive(Clone, Copy)]
-pub struct Line<'a> {
+pub(crate) struct Line<'a> {
     rest: &'a [u8],
-}
-
-// Whether a word of the file is this text.
-pub fn is(word: &[u8], text: &str) -> bool
-    ensures { result ≡ bytes_eq word.now text.now }
-{
-    word == text.as_bytes()
 }
 
 fn without_blanks(bytes: &[u8]) -> &[u8]
     ensures { result.now ≡ skip bytes.now }
 {
-    &bytes[run(bytes, Class::Blank)..]
-}
-
-fn opens_quote(bytes: &[u8]) -> bool
-    ensures { result ≡ quote_first bytes.now }
-{
-    matches!(bytes, [b'"', ..])
+    &bytes[run(bytes, is_blank)..]
 }
 
 // The bytes of an item that is not quoted.
-fn plain(heap: Global, word: &[u8]) -> Result<Vec<u8>, Stop>
+fn plain(heap: Global, word: &[u8]) -> Result<Vec<u8>, Failure<Problem>>
     ensures { Tells vec_items result (plain_of word.now) }
 {
     match word {
-        b"" => Err(Stop::Wrong(Problem::ItemMissing)),
+        b"" => Err(Failure::Mistake(Problem::ItemMissing)),
         b"-" => Ok(Vec::new(heap)),
         _ => from_hex(heap, word),
     }
 }
 
 impl<'a> Line<'a> {
-    pub fn new(bytes: &'a [u8]) -> Line<'a>
+    pub(crate) fn new(bytes: &'a [u8]) -> Line<'a>
         ensures { left result ≡ bytes.now }
     {
         Line { rest: bytes }
     }
 
     // The next word, which is empty where the line or a comment ends it.
-    pub fn word(&mut self) -> &'a [u8]
+    pub(crate) fn word(&mut self) -> &'a [u8]
         ensures value { result.now ≡ word_at (left self.old) }
         ensures after { left self.new ≡ after_word (left self.old) }
     {
         let tail = without_blanks(self.rest);
-        let (word, rest) = tail.split_at(run(tail, Class::OfWord));
+        let (word, rest) = tail.split_at(run(tail, of_word));
         self.rest = rest;
         word
     }
 
-    pub fn number(&mut self) -> Result<u64, Problem>
+    pub(crate) fn number(&mut self) -> Result<u64, Problem>
         ensures value { result ≡ number_at (left self.old) }
         ensures after { left self.new ≡ after_word (left self.old) }
     {
@@ -74,7 +63,7 @@ impl<'a> Line<'a> {
         number(word)
     }
 
-    pub fn pair(&mut self) -> Result<(u64, u64), Problem>
+    pub(crate) fn pair(&mut self) -> Result<(u64, u64), Problem>
         ensures value { result ≡ pair_at (left self.old) }
         ensures after { OnOk result (left self.new ≡ after_word (after_word (left self.old))) }
     {
@@ -83,19 +72,20 @@ impl<'a> Line<'a> {
         Ok((first, second))
     }
 
-    pub fn item(&mut self, heap: Global) -> Result<Vec<u8>, Stop>
+    pub(crate) fn item(&mut self, heap: Global) -> Result<Vec<u8>, Failure<Problem>>
         ensures { Tells (λ v. (v.items, left self.new)) result (item_at (left self.old)) }
     {
-        let tail = without_blanks(self.rest);
-        if !opens_quote(tail) {
-            return plain(heap, self.word());
+        match without_blanks(self.rest) {
+            [b'"', tail @ ..] => {
+                let (text, after) = quoted(tail)?;
+                self.rest = after;
+                Ok(Vec::from_slice(heap, text)?)
+            }
+            _ => plain(heap, self.word()),
         }
-        let (text, after) = quoted(&tail[1..])?;
-        self.rest = after;
-        Ok(Vec::from_slice(heap, text)?)
     }
 
-    pub fn end(&mut self) -> Result<(), Problem>
+    pub(crate) fn end(&mut self) -> Result<(), Problem>
         ensures { result ≡ ended (left self.old) }
     {
         if self.word().is_empty() {
@@ -105,21 +95,16 @@ impl<'a> Line<'a> {
         }
     }
 
-    // A number that ends the line.
-    pub fn last_number(&mut self) -> Result<u64, Problem>
-        ensures { result ≡ last_number_at (left self.old) }
+    // What `read` reads, with nothing but blanks and a comment after it.
+    pub(crate) fn last<T: Drop, F: FnOnce(&mut Line<'a>) -> Result<T, Problem>>(
+        &mut self,
+        read: F,
+    ) -> Result<T, Problem>
+        requires { F.IsAlwaysCallable read }
+        ensures { (r : Result T Problem) × (after : Line) × FnOnceReturnsAtMut F.FnOnce read self.old r after × (result ≡ then_end r (ended (left after))) }
     {
-        let n = self.number()?;
+        let value = read(self)?;
         self.end()?;
-        Ok(n)
-    }
-
-    // Two numbers that end the line.
-    pub fn last_pair(&mut self) -> Result<(u64, u64), Problem>
-        ensures { result ≡ last_pair_at (left self.old) }
-    {
-        let numbers = self.pair()?;
-        self.end()?;
-        Ok(numbers)
+        Ok(value)
     }
 }

@@ -1,36 +1,34 @@
-use Rattle.std.proofs.Common.{◌≡◌, ◌+◌, ◌<◌, [], length, Ok, sym, ap, ◌∙◌, arith, rules}
-use Rattle.std.proofs.lemmas.List.{nil_from_length}
-use Rattle.std.proofs.lemmas.Bool.{eqb-false, eqb-true}
+use Rattle.std.proofs.Common.{◌≡◌, ◌+◌, ◌≤◌, length, Ok, Err, inl, sym, ap, ◌∙◌, arith, rules}
+use Rattle.std.specs.Result.{MatchResult}
+use Rattle.std.proofs.lemmas.Result.{err_from_is_err_and}
+use Rattle.script.specs.Told.{failure_at}
 use Rattle.script.specs.Draft.{drafted}
 use Rattle.script.specs.Lines.{lines}
-use Rattle.script.specs.Parsed.{closed, failure_at, lines_taken}
-use Rattle.script.proofs.LineTurns.{line_goes, line_shortens, line_stops}
+use Rattle.script.specs.Parsed.{closed, lines_taken}
+use Rattle.script.proofs.LineTurns.{few_lines, line_goes, line_stops}
 use Rattle.script.proofs.parse.Goals as goal
 
-pub returns-in-Err : goal.returns-in-Err
-returns-in-Err c =
-    let rest = c.loop-rest.rest.now in
-    let none = eqb-false (length rest) 0 (sym c.loop-rest-test.ensures) in
-    let told : c.at_line.result ≡ failure_at (c.loop-rest.number + 1) c.in-Err.stop = search rules in
-    line_stops (λ _. drafted c.take.new.self) c.args.text.now (drafted c.loop-rest.draft) c.loop-rest.number c.in-Err.stop _ c.cut_line.result.0.now rest (omega (arith, none)) c.cut_line.ensures.line told c.in-Err.ensures c.loop-rest.invariant.1
+pub loop-i-init : goal.loop-i-init
+loop-i-init c =
+    let text : c.into_iter-i-iterator.result.iter.rest.now ≡ c.args.text.now = cc in
+    let none : c.into_iter-i-iterator.result.count ≡ 0 = cc in
+    rw (text, none) ((tt, tt, inl (omega (arith, few_lines c.args.text.now))), tt, omega (arith, few_lines c.args.text.now), ap (λ d. lines_taken d 0 (lines c.args.text.now)) c.new-draft.ensures)
 
-pub loop-rest-smaller : goal.loop-rest-smaller
-loop-rest-smaller c =
-    let rest = c.loop-rest.rest.now in
-    let none = eqb-false (length rest) 0 (sym c.loop-rest-test.ensures) in
-    omega (arith, line_shortens rest (omega (arith, none)), ap length c.cut_line.ensures.rest)
+pub returns-in_err-map_err : goal.returns-in_err-map_err
+returns-in_err-map_err c =
+    let step = c.in-Some.ensures.steps in
+    let passed : MatchResult c.take.result (λ u. c.map_err.result ≡ Ok u) (λ f. c.map_err.result ≡ Err (failure_at (c.in-Some.i + 1) f)) = search rules in
+    let p = err_from_is_err_and c.from_residual.result c.from_residual.ensures.1 in
+    rw (p.1, p.2)
+    (line_stops (drafted c.loop-i.draft) c.loop-i.i-iterator.count c.in-Some.i c.in-Some.line.now _ _ step.0 step.1 (drafted c.take.new.self) c.take.result c.map_err.result c.take.ensures passed c.args.text.now c.in_err-map_err.field-0.0 c.in_err-map_err.was c.loop-i.invariant.3)
 
-pub loop-rest-preserved : goal.loop-rest-preserved
-loop-rest-preserved c =
-    let rest = c.loop-rest.rest.now in
-    let none = eqb-false (length rest) 0 (sym c.loop-rest-test.ensures) in
-    let some : 0 < length rest = omega (arith, none) in (
-      omega (arith, line_shortens rest some, ap length c.cut_line.ensures.rest),
-      line_goes _ (drafted c.loop-rest.draft) (drafted c.take.new.self) c.loop-rest.number c.cut_line.result.0.now rest c.cut_line.result.1.now some c.cut_line.ensures.line c.cut_line.ensures.rest c.in_default.ensures c.loop-rest.invariant.1,
-    )
+pub loop-i-preserved : goal.loop-i-preserved
+loop-i-preserved c =
+    let step = c.in-Some.ensures.steps in
+    let room : c.next.new.self.count + length (lines c.next.new.self.iter.rest.now) ≤ length c.args.text.now = omega (arith, c.loop-i.invariant.2, ap length step.0, step.2) in
+    let passed : MatchResult c.take.result (λ u. c.map_err.result ≡ Ok u) (λ f. c.map_err.result ≡ Err (failure_at (c.in-Some.i + 1) f)) = search rules in
+    ((tt, tt, inl (omega (arith, room))), tt, room, line_goes (drafted c.loop-i.draft) c.loop-i.i-iterator.count c.in-Some.i c.in-Some.line.now _ _ step.0 step.1 (drafted c.take.new.self) c.take.result c.map_err.result c.take.ensures passed _ _ tt c.in_ok-map_err.was step.2 c.loop-i.invariant.3)
 
 pub returns : goal.returns
 returns c =
-    let rest = c.loop-rest.rest.now in
-    let none : rest ≡ [] = nil_from_length rest (eqb-true (length rest) 0 (sym c.loop-rest-test.ensures)) in
-    ap closed (sym c.loop-rest.invariant.1 ∙ ap (λ l. lines_taken (drafted c.loop-rest.draft) c.loop-rest.number (lines l)) none) ∙ ap Ok (sym c.finish.ensures)
+    ap closed (sym c.loop-i.invariant.3 ∙ ap (lines_taken (drafted c.loop-i.draft) c.loop-i.i-iterator.count) c.in-None.ensures.steps.0.0) ∙ ap Ok (sym c.finish.ensures)

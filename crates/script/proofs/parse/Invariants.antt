@@ -4,9 +4,8 @@ use Rattle.script.specs.Lines.{lines}
 use Rattle.script.specs.Parsed.{lines_taken}
 use Rattle.script.proofs.parse.Given as goal
 
-abbrev pub invariant-loop-rest : goal.invariant-loop-rest
-invariant-loop-rest l =
-    (l.number + length l.rest ≤ length l.text) × (lines_taken (drafted l.draft) l.number (lines l.rest) ≡ lines_taken start 0 (lines l.text))
-
-abbrev pub decreases-loop-rest : goal.decreases-loop-rest
-decreases-loop-rest l = length l.rest
+abbrev pub invariant-loop-i : goal.invariant-loop-i
+invariant-loop-i l =
+    let left = lines l.i-iterator.iter.rest.now in
+    let n = l.i-iterator.count in
+    (goal.iterator-loop-i).can_next l.i-iterator × (goal.iterator-loop-i).is_finite l.i-iterator × (n + length left ≤ length l.text) × (lines_taken (drafted l.draft) n left ≡ lines_taken start 0 (lines l.text))

@@ -1,19 +1,12 @@
-use Rattle.std.proofs.Common.{sym, arith}
-use Rattle.std.proofs.lemmas.List.Sums.{prefix_len-drop_yes, prefix_len-drop_no, prefix_len-drop_all}
-use Rattle.script.specs.Bytes.{has}
+use Rattle.std.proofs.Common.{rules, tests, ◌∙◌}
+use Rattle.std.proofs.lemmas.Iterator.{YieldsList-from_slice}
+use Rattle.std.proofs.lemmas.Iterator.Consumers.{count_from_yields_List}
+use Rattle.std.proofs.lemmas.Iterator.Search.{YieldsList-from_take_while}
+use Rattle.std.proofs.lemmas.List.Folds.{length-prefix_len}
 use Rattle.script.proofs.bytes.run.Goals as goal
 
-pub returns-then-not-contains : goal.returns-then-not-contains
-returns-then-not-contains c = record {
-  count = omega (arith, prefix_len-drop_no (has c.args.class) c.args.bytes.now c.loop-i.i 0 (omega arith) (sym c.if-not-contains.ensures));
-  within = omega arith;
-}
-
-pub loop-i-preserved : goal.loop-i-preserved
-loop-i-preserved c = omega (arith, prefix_len-drop_yes (has c.args.class) c.args.bytes.now c.loop-i.i 0 (omega arith) (sym c.if-not-contains.ensures))
-
-pub returns : goal.returns
-returns c = record {
-  count = omega (arith, prefix_len-drop_all (has c.args.class) c.args.bytes.now c.loop-i.i (omega arith));
-  within = omega arith;
-}
+pub returns-clause-count : goal.returns-clause-count
+returns-clause-count g c p computes =
+    count_from_yields_List c.take_while.result _ c.count.ensures.ran
+    (YieldsList-from_take_while {s = c.take_while.result} _ p (YieldsList-from_slice c.args.bytes.now cc) c.take_while.ensures.closure c.take_while.ensures.done (λ x b q k. search (rules, tests, computes)))
+    ∙ length-prefix_len p c.args.bytes.now
