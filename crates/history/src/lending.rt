@@ -1,5 +1,5 @@
 // Calls that are lent the front of a work buffer, of any length that a step asks for and the buffer has.
-ghost use Rattle.std.specs.Prelude.{◌≡◌};
+ghost use Rattle.std.specs.Prelude.{◌≡◌, min, length};
 ghost use Rattle.history.specs.Turns.{back, lent};
 ghost use Rattle.journal.specs.Calls.{append_call, get_call};
 ghost use Rattle.journal.specs.Replays.{next_call, nexted, reading};
@@ -12,6 +12,13 @@ use item::Item;
 use journal::{Finished, Handed, Journal, Placed, Replay};
 use storage::Storage;
 
+// How much of the buffer a call is lent: what the step asks for, or all that there is.
+fn lent_len(work: u64, buffer: &[u8]) -> usize
+    ensures { result ≡ min work (length buffer.now) }
+{
+    work.min(buffer.len() as u64) as usize
+}
+
 pub(crate) fn init_at_most<V: Item + Drop, S: Storage>(
     storage: S,
     section: u64,
@@ -21,8 +28,8 @@ pub(crate) fn init_at_most<V: Item + Drop, S: Storage>(
 ) -> Finished<V, S>
     ensures { outcome result.answer (stands S.Storage.standing result.journal) buffer.new ≡ back_outcome work buffer.old (init_at_most_call V.Item.decoded V.Item.greatest (S.Storage.standing storage) section end (lent work buffer.old)) }
 {
-    let lent = work.min(buffer.len() as u64) as usize;
-    Journal::<V, S>::init_at_most(storage, section, end, &mut buffer[0..lent])
+    let lent = lent_len(work, buffer);
+    Journal::<V, S>::init_at_most(storage, section, end, &mut buffer[..lent])
 }
 
 pub(crate) fn append<V: Item + Drop, S: Storage>(
@@ -34,8 +41,8 @@ pub(crate) fn append<V: Item + Drop, S: Storage>(
 ) -> Result<Placed, Fault>
     ensures { outcome result (stands S.Storage.standing journal.new) buffer.new ≡ back_outcome work buffer.old (append_call V.Item.greatest (stands S.Storage.standing journal.old) section (V.Item.bytes item.now) (lent work buffer.old)) }
 {
-    let lent = work.min(buffer.len() as u64) as usize;
-    journal.append(section, item, &mut buffer[0..lent])
+    let lent = lent_len(work, buffer);
+    journal.append(section, item, &mut buffer[..lent])
 }
 
 pub(crate) fn get<V: Item + Drop, S: Storage>(
@@ -48,8 +55,8 @@ pub(crate) fn get<V: Item + Drop, S: Storage>(
 ) -> Result<usize, Fault>
     ensures { fetched result buffer.new item.new ≡ back_fetched work buffer.old (get_call V.Item.decoded V.Item.greatest (stands S.Storage.standing journal.now) section offset (lent work buffer.old) item.old) }
 {
-    let lent = work.min(buffer.len() as u64) as usize;
-    journal.get(section, offset, &mut buffer[0..lent], item)
+    let lent = lent_len(work, buffer);
+    journal.get(section, offset, &mut buffer[..lent], item)
 }
 
 pub(crate) fn next<V: Item + Drop, S: Storage>(
@@ -60,6 +67,6 @@ pub(crate) fn next<V: Item + Drop, S: Storage>(
 ) -> Result<Option<Handed>, Fault>
     ensures { nexted result (reading S.Storage.standing replay.new) buffer.new item.new ≡ back_nexted work buffer.old (next_call V.Item.decoded V.Item.greatest (reading S.Storage.standing replay.old) (lent work buffer.old) item.old) }
 {
-    let lent = work.min(buffer.len() as u64) as usize;
-    replay.next(&mut buffer[0..lent], item)
+    let lent = lent_len(work, buffer);
+    replay.next(&mut buffer[..lent], item)
 }
