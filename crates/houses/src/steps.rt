@@ -10,11 +10,7 @@ use std::alloc::{AllocError, Global};
 fn work_len(own: Option<u64>, file: Option<u64>, most: u64) -> u64
     ensures { result ≡ work_of own file most }
 {
-    match (own, file) {
-        (Some(own), _) => own,
-        (None, Some(each)) => each,
-        (None, None) => most,
-    }
+    own.or(file).unwrap_or(most)
 }
 
 // The step of a history that a line of the file asks for.

@@ -61,7 +61,11 @@ impl Draft {
     }
 
     // A setting with what its line gives it; `before` is what it has been given.
-    fn setting<T: Drop>(&self, before: Option<T>, read: Result<T, Problem>) -> Result<Option<T>, Problem>
+    fn setting<T: Drop>(
+        &self,
+        before: Option<T>,
+        read: Result<T, Problem>,
+    ) -> Result<Option<T>, Problem>
         ensures { result ≡ where_allowed (may_set (drafted self.now) before) (told Some read) }
     {
         if !self.steps.is_empty() {
