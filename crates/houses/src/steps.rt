@@ -48,7 +48,7 @@ fn step_of(call: Call, work: u64) -> Step
 // A file's steps with the word of each, and a place for what is noted of it.
 #[derive(Drop)]
 pub struct Plan<V> {
-    pub words: Vec<String>,
+    pub words: Vec<&'static str>,
     pub steps: Vec<Step>,
     pub notes: Vec<Option<Note<V>>>,
 }
@@ -70,7 +70,7 @@ pub(crate) fn planned<V: Drop>(
             work,
             line: _,
         } = line;
-        plan.words.push(String::from_str(heap, call.word())?)?;
+        plan.words.push(call.word())?;
         plan.steps.push(step_of(call, work_len(work, file, most)))?;
         plan.notes.push(None)?;
     }
