@@ -3,6 +3,7 @@
 use anyhow::anyhow;
 use std::time::Instant;
 use storage::{Pages, Slots, Storage};
+use timing::Hundredths;
 
 const BATCH: u64 = 64;
 
@@ -11,11 +12,11 @@ const ROUNDS: u64 = 128;
 // Near empty and near full take turns this often, so that a slow spell of the machine meets both.
 const TURNS: u64 = 16;
 
-// Nanoseconds for a hundred calls.
+// What one call takes.
 #[derive(Clone, Copy)]
 struct Times {
-    append: u64,
-    read: u64,
+    append: Hundredths,
+    read: Hundredths,
 }
 
 // Which sections stand: so many, numbered from 0 in equal steps.
@@ -31,11 +32,17 @@ impl Sections {
     }
 }
 
+// How many bytes a section has near full, with 1 section and with 64.
+#[derive(Clone, Copy)]
+struct Full {
+    one: u64,
+    many: u64,
+}
+
 // Brings each section to `base` bytes, with zeros.
 fn fill<S: Storage>(storage: &mut S, sections: Sections, base: u64) {
     let block = [0u8; 256];
-    for i in 0..sections.count {
-        let section = sections.number(i);
+    for section in (0..sections.count).map(|i| sections.number(i)) {
         for _ in 0..(base / 256) {
             if storage.size(section) >= base {
                 break;
@@ -46,23 +53,19 @@ fn fill<S: Storage>(storage: &mut S, sections: Sections, base: u64) {
     }
 }
 
-fn hundredth(nanos: u128) -> u64 {
-    (nanos.saturating_mul(100) / u128::from(BATCH)).min(u128::from(u64::MAX)) as u64
-}
-
 // A batch of calls, each on its section; every one must be taken.
 fn batch<F: FnMut(u64) -> bool>(
     rt: &HostRuntime,
     sections: Sections,
     mut call: F,
     refused: &str,
-) -> anyhow::Result<u64>
+) -> anyhow::Result<Hundredths>
     requires { F.IsAlwaysCallable call }
 {
     let start = Instant::now(rt)?;
     let mut taken = 0u64;
-    for i in 0..BATCH {
-        if call(sections.number(i)) {
+    for section in (0..BATCH).map(|i| sections.number(i)) {
+        if call(section) {
             taken = taken.saturating_add(1);
         }
     }
@@ -70,12 +73,12 @@ fn batch<F: FnMut(u64) -> bool>(
     if taken < BATCH {
         return Err(anyhow!("{refused} was refused"));
     }
-    Ok(hundredth(nanos))
+    Ok(Hundredths::each(nanos, BATCH))
 }
 
 const NEVER: Times = Times {
-    append: u64::MAX,
-    read: u64::MAX,
+    append: Hundredths(u64::MAX),
+    read: Hundredths(u64::MAX),
 };
 
 // The best of these rounds and of `before`.
@@ -124,8 +127,8 @@ fn compare<S: Storage>(
         low = measure(rt, storage, sections, 0, buffer, low)?;
         high = measure(rt, storage, sections, full, buffer, high)?;
     }
-    for i in 0..sections.count {
-        storage.remove(sections.number(i));
+    for section in (0..sections.count).map(|i| sections.number(i)) {
+        storage.remove(section);
     }
     print_row(rt, name, sections, size, "near empty", low)?;
     print_row(rt, name, sections, size, "near full", high)?;
@@ -143,18 +146,15 @@ fn print_row(
 ) -> anyhow::Result<()> {
     let count = sections.count;
     let step = sections.step;
-    let append = times.append / 100;
-    let append_rest = times.append % 100;
-    let read = times.read / 100;
-    let read_rest = times.read % 100;
+    let Times { append, read } = times;
     println!(rt;
-        "{name}, sections {count} in steps of {step}, {size} bytes, {filling}: append {append}.{append_rest:02} ns, read {read}.{read_rest:02} ns"
+        "{name}, sections {count} in steps of {step}, {size} bytes, {filling}: append {append} ns, read {read} ns"
     )?;
     Ok(())
 }
 
-fn percent(a: u64, b: u64) -> u64 {
-    a.saturating_mul(100) / b.max(1)
+fn percent(a: Hundredths, b: Hundredths) -> u64 {
+    a.0.saturating_mul(100) / b.0.max(1)
 }
 
 fn print_ratio(rt: &HostRuntime, what: &str, a: Times, b: Times) -> anyhow::Result<()> {
@@ -168,48 +168,27 @@ fn measure_records<S: Storage>(
     rt: &HostRuntime,
     name: &str,
     storage: &mut S,
-    full_one: u64,
-    full_many: u64,
+    full: Full,
     record: &mut [u8],
 ) -> anyhow::Result<()> {
-    let one = compare(
-        rt,
-        name,
-        storage,
-        Sections { count: 1, step: 1 },
-        full_one,
-        record,
-    )?;
-    let close = compare(
-        rt,
-        name,
-        storage,
-        Sections { count: 64, step: 1 },
-        full_many,
-        record,
-    )?;
-    print_ratio(rt, "64 sections to 1", close, one)?;
-    let spaced = compare(
-        rt,
-        name,
-        storage,
-        Sections { count: 64, step: 3 },
-        full_many,
-        record,
-    )?;
-    print_ratio(rt, "64 sections to 1", spaced, one)
+    let alone = Sections { count: 1, step: 1 };
+    let one = compare(rt, name, storage, alone, full.one, record)?;
+    for step in [1, 3] {
+        let sections = Sections { count: 64, step };
+        let many = compare(rt, name, storage, sections, full.many, record)?;
+        print_ratio(rt, "64 sections to 1", many, one)?;
+    }
+    Ok(())
 }
 
-// `full_one` and `full_many` are how many bytes a section has near full, with 1 section and with 64.
 fn measure_storage<S: Storage>(
     rt: &HostRuntime,
     name: &str,
     storage: &mut S,
-    full_one: u64,
-    full_many: u64,
+    full: Full,
 ) -> anyhow::Result<()> {
-    measure_records(rt, name, storage, full_one, full_many, &mut [7u8; 5])?;
-    measure_records(rt, name, storage, full_one, full_many, &mut [7u8; 200])
+    measure_records(rt, name, storage, full, &mut [7u8; 5])?;
+    measure_records(rt, name, storage, full, &mut [7u8; 200])
 }
 
 fn no_memory() -> anyhow::Error {
@@ -222,9 +201,17 @@ pub fn measure_all(rt: &HostRuntime) -> anyhow::Result<()> {
     let area = vec![in heap; 0u8; 4_000_000]?;
     let mut slots = Slots::new(heap, area, 64).map_err(|_| no_memory())?;
     // A slot has 62,500 bytes; a batch of 64 records of 200 bytes still fits behind.
-    measure_storage(rt, "slots", &mut slots, 49_664, 62_208)?;
+    let full = Full {
+        one: 49_664,
+        many: 62_208,
+    };
+    measure_storage(rt, "slots", &mut slots, full)?;
     let area = vec![in heap; 0u8; 1_048_576]?;
     let mut pages = Pages::new(heap, area).map_err(|_| no_memory())?;
     // 4,045 of the 4,096 pages with 1 section, 63 pages in each of 64; a batch takes the rest at most.
-    measure_storage(rt, "pages", &mut pages, 1_035_520, 16_128)
+    let full = Full {
+        one: 1_035_520,
+        many: 16_128,
+    };
+    measure_storage(rt, "pages", &mut pages, full)
 }

@@ -5,31 +5,28 @@ use item::{DateMark, DayKind};
 use journal::Journal;
 use std::time::Instant;
 use storage::{Pages, Slots, Storage};
+use timing::Hundredths;
 
 const ROUNDS: u64 = 7;
 
 // A date mark and its header.
 const FRAME: u64 = 6;
 
-// Nanoseconds for a hundred items.
+// What is done for one item takes so long.
 #[derive(Clone, Copy)]
 struct Costs {
-    append: u64,
-    sync: u64,
-    get: u64,
-    replay: u64,
+    append: Hundredths,
+    sync: Hundredths,
+    get: Hundredths,
+    replay: Hundredths,
 }
 
 const NEVER: Costs = Costs {
-    append: u64::MAX,
-    sync: u64::MAX,
-    get: u64::MAX,
-    replay: u64::MAX,
+    append: Hundredths(u64::MAX),
+    sync: Hundredths(u64::MAX),
+    get: Hundredths(u64::MAX),
+    replay: Hundredths(u64::MAX),
 };
-
-fn each_hundred(nanos: u128, items: u64) -> u64 {
-    (nanos.saturating_mul(100) / u128::from(items.max(1))).min(u128::from(u64::MAX)) as u64
-}
 
 // Calls, one for each item; every one must be accepted.
 fn each<F: FnMut(u64) -> bool>(
@@ -37,7 +34,7 @@ fn each<F: FnMut(u64) -> bool>(
     items: u64,
     mut call: F,
     refused: &str,
-) -> anyhow::Result<u64>
+) -> anyhow::Result<Hundredths>
     requires { F.IsAlwaysCallable call }
 {
     let start = Instant::now(rt)?;
@@ -51,7 +48,7 @@ fn each<F: FnMut(u64) -> bool>(
     if taken < items {
         return Err(anyhow!("{refused} was refused"));
     }
-    Ok(each_hundred(nanos, items))
+    Ok(Hundredths::each(nanos, items))
 }
 
 // From the opening to the finish.
@@ -60,7 +57,7 @@ fn replay_all<S: Storage + Drop>(
     storage: S,
     items: u64,
     work: &mut [u8],
-) -> anyhow::Result<(S, u64)> {
+) -> anyhow::Result<(S, Hundredths)> {
     let start = Instant::now(rt)?;
     let mut replay = Journal::<DateMark, S>::init(storage).replay(0, 0);
     let mut taken = 0u64;
@@ -76,7 +73,7 @@ fn replay_all<S: Storage + Drop>(
     if taken < items || !drained || finished.answer.is_err() {
         return Err(anyhow!("a replay was refused"));
     }
-    Ok((finished.journal.close(), each_hundred(nanos, items)))
+    Ok((finished.journal.close(), Hundredths::each(nanos, items)))
 }
 
 // One round on a storage without sections, which it leaves so.
@@ -145,14 +142,12 @@ fn print_call(
     name: &str,
     call: &str,
     items: u64,
-    cost: u64,
-    few: u64,
+    cost: Hundredths,
+    few: Hundredths,
 ) -> anyhow::Result<()> {
-    let whole = cost / 100;
-    let part = cost % 100;
-    let percent = cost.saturating_mul(100) / few.max(1);
+    let percent = cost.0.saturating_mul(100) / few.0.max(1);
     println!(rt;
-        "{name} {call} of {items} items: {whole}.{part:02} ns an item, {percent} % of 1000 items"
+        "{name} {call} of {items} items: {cost} ns an item, {percent} % of 1000 items"
     )?;
     Ok(())
 }

@@ -5,20 +5,8 @@ use fault::Fault;
 use history::Note;
 use item::Item;
 use journal::{Handed, Placed, Row};
+use program::Digits;
 use std::alloc::{AllocError, Global};
-
-// The item's bytes in pairs of digits, `-` for none.
-fn hex<V: Item>(heap: Global, item: &V) -> Result<String, AllocError> {
-    let bytes = bytes_of(heap, item)?;
-    let mut text = String::new(heap);
-    for byte in bytes.iter() {
-        write!(text, "{byte:02x}")?;
-    }
-    if bytes.is_empty() {
-        text.push_str("-")?;
-    }
-    Ok(text)
-}
 
 fn refusal(heap: Global, fault: Fault) -> Result<String, AllocError> {
     let row = fault.row();
@@ -32,7 +20,8 @@ fn standing<V: Item>(heap: Global, handed: Handed, item: &V) -> Result<String, A
         offset,
         size,
     } = handed;
-    let item = hex(heap, item)?;
+    let bytes = bytes_of(heap, item)?;
+    let item = Digits(&bytes);
     format!(in heap; "section {section} offset {offset} size {size} item {item}")
 }
 
@@ -56,7 +45,8 @@ fn answer<V: Item>(heap: Global, note: &Note<V>) -> Result<Option<String>, Alloc
             size,
             item: Some(item),
         } => {
-            let item = hex(heap, item)?;
+            let bytes = bytes_of(heap, item)?;
+            let item = Digits(&bytes);
             format!(in heap; "ok size {size} item {item}")?
         }
         Note::Sized(size) => format!(in heap; "ok size {size}")?,
@@ -78,7 +68,7 @@ fn answer<V: Item>(heap: Global, note: &Note<V>) -> Result<Option<String>, Alloc
 
 pub(crate) fn print_notes<V: Item>(
     rt: &HostRuntime,
-    words: &[String],
+    words: &[&'static str],
     notes: &[Option<Note<V>>],
 ) -> anyhow::Result<()> {
     for ((word, note), number) in words.iter().zip(notes.iter()).zip(1u64..u64::MAX) {

@@ -18,10 +18,7 @@ fn begun(last: Option<u64>, section: u64) -> usize
     ensures value { result ≡ begun last section }
     ensures few { result ≤ 1 }
 {
-    match last {
-        Some(last) => { if last == section { 0 } else { 1 } }
-        None => 1,
-    }
+    usize::from(last != Some(section))
 }
 
 // How many sections the rows are of; rows of one section stand together.

@@ -10,11 +10,7 @@ use std::alloc::{AllocError, Global};
 fn work_len(own: Option<u64>, file: Option<u64>, most: u64) -> u64
     ensures { result ≡ work_of own file most }
 {
-    match (own, file) {
-        (Some(own), _) => own,
-        (None, Some(each)) => each,
-        (None, None) => most,
-    }
+    own.or(file).unwrap_or(most)
 }
 
 // The step of a history that a line of the file asks for.
@@ -52,7 +48,7 @@ fn step_of(call: Call, work: u64) -> Step
 // A file's steps with the word of each, and a place for what is noted of it.
 #[derive(Drop)]
 pub struct Plan<V> {
-    pub words: Vec<String>,
+    pub words: Vec<&'static str>,
     pub steps: Vec<Step>,
     pub notes: Vec<Option<Note<V>>>,
 }
@@ -74,7 +70,7 @@ pub(crate) fn planned<V: Drop>(
             work,
             line: _,
         } = line;
-        plan.words.push(String::from_str(heap, call.word())?)?;
+        plan.words.push(call.word())?;
         plan.steps.push(step_of(call, work_len(work, file, most)))?;
         plan.notes.push(None)?;
     }

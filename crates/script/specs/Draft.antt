@@ -9,8 +9,6 @@ use Rattle.script.specs.Words.{after_word, empty, ended, last_number_at, last_pa
 use Rattle.script.specs.declared.problems.Problem.{Problem}
 use Rattle.script.specs.declared.problems.Problem.TheVariants.{KindMissing, UnknownKind, StorageMissing, UnknownStorage, SettingTwice, SettingAfterStep}
 use Rattle.script.specs.declared.settings.Draft.{Draft}
-use Rattle.script.specs.declared.settings.Setting.{Setting}
-use Rattle.script.specs.declared.settings.Setting.TheVariants as setting
 use Rattle.script.specs.declared.steps.Kind.{Kind}
 use Rattle.script.specs.declared.steps.Kind.TheVariants.{Mark, Line}
 use Rattle.script.specs.declared.steps.Medium.{Medium}
@@ -36,11 +34,6 @@ drafted d = drafting d.kind d.medium d.work (map turn (vec_items d.steps))
 abbrev pub start : Drafted
 start = drafting None None None []
 
--- the settings by their words
-abbrev pub setting_of : List ℕ → Option Setting
-setting_of w =
-    cond (bytes_eq w (codes "kind")) (Some setting.Kind) (cond (bytes_eq w (codes "storage")) (Some setting.Storage) (cond (bytes_eq w (codes "work")) (Some setting.Work) None))
-
 -- the kinds by their words
 abbrev pub kind_of : List ℕ → Result Kind Problem
 kind_of w =
@@ -64,43 +57,34 @@ medium_of w rest =
 abbrev pub medium_at : List ℕ → Result Medium Problem
 medium_at bs = medium_of (word_at bs) (after_word bs)
 
--- the setting has been given
-abbrev pub given : Drafted → Setting → Bool
-given d setting.Kind = is_some d.kind
-given d setting.Storage = is_some d.medium
-given d setting.Work = is_some d.work
-
--- a setting stands before every step, and at most once
-abbrev pub may_set : Drafted → Setting → Result (Unit {0}) Problem
-may_set d s = cond (length d.turns == 0) (cond (given d s) (Err SettingTwice) (Ok tt)) (Err SettingAfterStep)
-
--- the setting as the line says
-abbrev pub setting_read : Drafted → Setting → List ℕ → Result Drafted Problem
-setting_read d setting.Kind bs = told (λ k. drafting (Some k) d.medium d.work d.turns) (kind_at bs)
-setting_read d setting.Storage bs = told (λ m. drafting d.kind (Some m) d.work d.turns) (medium_at bs)
-setting_read d setting.Work bs = told (λ n. drafting d.kind d.medium (Some n) d.turns) (last_number_at bs)
+-- a setting stands before every step, and at most once; given is what stands for it so far
+abbrev pub may_set : {X : Type 0} → Drafted → Option X → Result (Unit {0}) Problem
+may_set d given = cond (length d.turns == 0) (cond (is_some given) (Err SettingTwice) (Ok tt)) (Err SettingAfterStep)
 
 -- an answer, unless the setting may not stand here
-abbrev pub where_allowed : Result (Unit {0}) Problem → Result Drafted Problem → Result Drafted Problem
+abbrev pub where_allowed : {Y : Type 0} → Result (Unit {0}) Problem → Result Y Problem → Result Y Problem
 where_allowed (Ok u) r = r
 where_allowed (Err p) r = Err p
 
--- a line that is a setting
-abbrev pub setting_taken : Drafted → Setting → List ℕ → Result Drafted Problem
-setting_taken d s bs = where_allowed (may_set d s) (setting_read d s bs)
+-- a line that is a setting: what has been given so far, what the line gives, and where it goes
+abbrev pub setting_taken : {X : Type 0} → Drafted → Option X → Result X Problem → (Option X → Drafted) → Result Drafted Problem
+setting_taken d given read put = told put (where_allowed (may_set d given) (told Some read))
 
 -- a line that is a step adds it at the end
 abbrev pub step_taken : Drafted → Result Turn Problem → Result Drafted Problem
 step_taken d r = told (λ t. drafting d.kind d.medium d.work (d.turns ++ t ∷ [])) r
 
--- a line that is neither blank nor a comment is a setting or a step
-abbrev pub words_taken : Drafted → ℕ → Option Setting → List ℕ → List ℕ → Result Drafted Problem
-words_taken d n (Some s) w rest = setting_taken d s rest
-words_taken d n None w rest = step_taken d (step_at n w rest)
+-- the settings by their words; any other line is a step
+abbrev pub words_taken : Drafted → ℕ → List ℕ → List ℕ → Result Drafted Problem
+words_taken d n w rest =
+    cond (bytes_eq w (codes "kind")) (setting_taken d d.kind (kind_at rest) (λ k. drafting k d.medium d.work d.turns))
+    (cond (bytes_eq w (codes "storage")) (setting_taken d d.medium (medium_at rest) (λ m. drafting d.kind m d.work d.turns))
+    (cond (bytes_eq w (codes "work")) (setting_taken d d.work (last_number_at rest) (λ n. drafting d.kind d.medium n d.turns))
+    (step_taken d (step_at n w rest))))
 
 -- what a line adds; a line without a word adds nothing
 abbrev pub line_taken : Drafted → ℕ → List ℕ → Result Drafted Problem
-line_taken d n bs = cond (empty (word_at bs)) (Ok d) (words_taken d n (setting_of (word_at bs)) (word_at bs) (after_word bs))
+line_taken d n bs = cond (empty (word_at bs)) (Ok d) (words_taken d n (word_at bs) (after_word bs))
 
 -- a whole script
 pub record Whole : Type 0 where

@@ -12,12 +12,7 @@ use std::alloc::Global;
 fn hex_digit(b: u8) -> Option<u8>
     ensures { result ≡ hex_digit b }
 {
-    match b {
-        b'0'..=b'9' => Some(b - b'0'),
-        b'a'..=b'f' => Some(b - b'a' + 10),
-        b'A'..=b'F' => Some(b - b'A' + 10),
-        _ => None,
-    }
+    char::from(b).to_digit(16).map(|digit| digit as u8)
 }
 
 fn hex_byte(high: u8, low: u8) -> Option<u8>

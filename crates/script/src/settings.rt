@@ -1,6 +1,6 @@
 // What has been read of a history file so far, and how a line adds to it.
-ghost use Rattle.std.specs.Prelude.{◌≡◌};
-ghost use Rattle.script.specs.Draft.{drafted, finished, given, kind_at, kind_of, line_taken, may_set, medium_at, setting_of, setting_taken, start, whole};
+ghost use Rattle.std.specs.Prelude.{◌≡◌, Some};
+ghost use Rattle.script.specs.Draft.{drafted, finished, kind_at, kind_of, line_taken, may_set, medium_at, start, where_allowed, whole};
 ghost use Rattle.script.specs.Told.{Tells, told};
 ghost use Rattle.script.specs.Words.{left};
 
@@ -9,26 +9,6 @@ use crate::reading::step;
 use crate::steps::{Kind, Medium, Script, Step};
 use crate::words::Line;
 use std::alloc::Global;
-
-#[derive(Clone, Copy)]
-pub(crate) enum Setting {
-    Kind,
-    Storage,
-    Work,
-}
-
-impl Setting {
-    fn find(word: &[u8]) -> Option<Setting>
-        ensures { result ≡ setting_of word.now }
-    {
-        match word {
-            b"kind" => Some(Setting::Kind),
-            b"storage" => Some(Setting::Storage),
-            b"work" => Some(Setting::Work),
-            _ => None,
-        }
-    }
-}
 
 fn kind_named(word: &[u8]) -> Result<Kind, Problem>
     ensures { result ≡ kind_of word.now }
@@ -80,38 +60,21 @@ impl Draft {
         }
     }
 
-    fn has(&self, setting: Setting) -> bool
-        ensures { result ≡ given (drafted self.now) setting }
-    {
-        match setting {
-            Setting::Kind => self.kind.is_some(),
-            Setting::Storage => self.medium.is_some(),
-            Setting::Work => self.work.is_some(),
-        }
-    }
-
-    fn allow(&self, setting: Setting) -> Result<(), Problem>
-        ensures { result ≡ may_set (drafted self.now) setting }
+    // A setting with what its line gives it; `before` is what it has been given.
+    fn setting<T: Drop>(
+        &self,
+        before: Option<T>,
+        read: Result<T, Problem>,
+    ) -> Result<Option<T>, Problem>
+        ensures { result ≡ where_allowed (may_set (drafted self.now) before) (told Some read) }
     {
         if !self.steps.is_empty() {
             Err(Problem::SettingAfterStep)
-        } else if self.has(setting) {
+        } else if before.is_some() {
             Err(Problem::SettingTwice)
         } else {
-            Ok(())
+            read.map(Some)
         }
-    }
-
-    fn set(&mut self, setting: Setting, line: &mut Line) -> Result<(), Problem>
-        ensures { told (λ _. drafted self.new) result ≡ setting_taken (drafted self.old) setting (left line.old) }
-    {
-        self.allow(setting)?;
-        match setting {
-            Setting::Kind => self.kind = Some(read_kind(line)?),
-            Setting::Storage => self.medium = Some(read_medium(line)?),
-            Setting::Work => self.work = Some(line.last(Line::number)?),
-        }
-        Ok(())
     }
 
     // Takes the line with this number.
@@ -128,9 +91,11 @@ impl Draft {
         if word.is_empty() {
             return Ok(());
         }
-        match Setting::find(word) {
-            Some(setting) => self.set(setting, &mut line)?,
-            None => self.steps.push(step(heap, number, word, &mut line)?)?,
+        match word {
+            b"kind" => self.kind = self.setting(self.kind, read_kind(&mut line))?,
+            b"storage" => self.medium = self.setting(self.medium, read_medium(&mut line))?,
+            b"work" => self.work = self.setting(self.work, line.last(Line::number))?,
+            _ => self.steps.push(step(heap, number, word, &mut line)?)?,
         }
         Ok(())
     }
