@@ -146,9 +146,7 @@ fn print_call(
     few: Hundredths,
 ) -> anyhow::Result<()> {
     let percent = cost.0.saturating_mul(100) / few.0.max(1);
-    println!(rt;
-        "{name} {call} of {items} items: {cost} ns an item, {percent} % of 1000 items"
-    )?;
+    println!(rt; "{name} {call} of {items} items: {cost} ns an item, {percent} % of 1000 items")?;
     Ok(())
 }
 
