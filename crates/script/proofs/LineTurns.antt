@@ -1,18 +1,10 @@
--- What one turn of `parse` keeps.
-use Rattle.std.proofs.Common.{◌≡◌, ℕ, suc, ◌+◌, ◌≤◌, true, false, List, [], ◌∷◌, map, length, take, drop, ◌==◌, Ok, Err, Result, sym, refl, ap, ◌∙◌, ⊎_elim, one-add, arith}
+-- Lines cut off one by one, and how many there are.
+use Rattle.std.proofs.Common.{◌≡◌, ℕ, suc, ◌+◌, ◌≤◌, true, false, List, [], ◌∷◌, map, length, take, drop, ◌==◌, sym, refl, ap, ◌∙◌, ⊎_elim, one-add, arith}
 use Rattle.std.specs.List.{prefix_len}
-use Rattle.std.specs.Result.{MatchResult}
 use Rattle.std.proofs.lemmas.List.{length-map}
 use Rattle.std.proofs.lemmas.Bool.{cases_Bool, cond-true, cond-false, eqb-false}
 use Rattle.script.specs.Bytes.{of_line}
-use Rattle.script.specs.Draft.{Drafted, Whole, line_taken, start}
 use Rattle.script.specs.Lines.{after_line, in_front, line_at, lines, pieces, without_return}
-use Rattle.script.specs.Parsed.{Parses, closed, go_on, lines_taken, script_of}
-use Rattle.script.specs.Told.{Tells, failure_at, mistaken}
-use Rattle.script.specs.declared.problems.Failure.{Failure}
-use Rattle.script.specs.declared.problems.Failure.TheVariants as failure
-use Rattle.script.specs.declared.problems.Mistake.{Mistake}
-use Rattle.script.specs.declared.problems.Problem.{Problem}
 
 abbrev front : List ℕ → List ℕ
 front bs = take (prefix_len of_line bs) bs
@@ -56,32 +48,3 @@ few_pieces (b ∷ bs) = ⊎_elim (λ e. rw (cond-true (of_line b) (in_front b (p
 
 pub few_lines : (bs : List ℕ) → length (lines bs) ≤ length bs
 few_lines bs = rw (length-map (pieces bs) without_return) (few_pieces bs)
-
--- line i is the first that is left, where i have been read
-goes : (e : Drafted) (i : ℕ) (t : Result Drafted Problem) (took : Result (Unit {0}) (Failure Problem)) (told : Result (Unit {0}) (Failure Mistake)) (u : Unit {0}) → Tells (λ _. e) took t → MatchResult took (λ v. told ≡ Ok v) (λ f. told ≡ Err (failure_at i f)) → told ≡ Ok u → t ≡ Ok e
-goes e i t (Ok v) told u read passed went = read
-goes e i t (Err f) told u read passed went = let no : ◌≡◌ {A = Result (Unit {0}) (Failure Mistake)} (Err (failure_at i f)) (Ok u) = sym passed ∙ went in cc
-
-stops : (e : Drafted) (i : ℕ) (t : Result Drafted Problem) (s : Result Whole Mistake) (next : Drafted → Result Drafted Mistake) (took : Result (Unit {0}) (Failure Problem)) (told : Result (Unit {0}) (Failure Mistake)) (f : Failure Mistake) → Tells (λ _. e) took t → MatchResult took (λ v. told ≡ Ok v) (λ g. told ≡ Err (failure_at i g)) → told ≡ Err f → closed (go_on i t next) ≡ s → Parses (Err f) s
-stops e i t s next (Ok v) told f read passed failed whole = let no : ◌≡◌ {A = Result (Unit {0}) (Failure Mistake)} (Ok v) (Err f) = sym passed ∙ failed in cc
-stops e i t s next (Err (failure.Mistake p)) told (failure.Mistake m) read passed failed whole =
-    let same : ◌≡◌ {A = Result (Unit {0}) (Failure Mistake)} (Err (failure.Mistake (mistaken i p))) (Err (failure.Mistake m)) = sym passed ∙ failed in
-    let line : mistaken i p ≡ m = cc in
-    sym whole ∙ ap (λ r. closed (go_on i r next)) read ∙ ap Err line
-stops e i t s next (Err g) told failure.Memory read passed failed whole = tt
-stops e i t s next (Err failure.Memory) told (failure.Mistake m) read passed failed whole =
-    let no : ◌≡◌ {A = Result (Unit {0}) (Failure Mistake)} (Err failure.Memory) (Err (failure.Mistake m)) = sym passed ∙ failed in cc
-
-module _ (d : Drafted) (n i : ℕ) (line : List ℕ) (all others : List (List ℕ)) (split : all ≡ line ∷ others) (same : i ≡ n) where
-  turn : lines_taken d n all ≡ go_on (i + 1) (line_taken d (i + 1) line) (λ e. lines_taken e (i + 1) others)
-  turn = rw (split, ← same) refl
-
-  -- what the line gave, and the same with the line told
-  module _ (e : Drafted) (took : Result (Unit {0}) (Failure Problem)) (told : Result (Unit {0}) (Failure Mistake)) (read : Tells (λ _. e) took (line_taken d (i + 1) line)) (passed : MatchResult took (λ u. told ≡ Ok u) (λ f. told ≡ Err (failure_at (i + 1) f))) where
-    pub line_goes : (whole : Result Drafted Mistake) (m : ℕ) (u : Unit {0}) → told ≡ Ok u → m ≡ n + 1 → lines_taken d n all ≡ whole → lines_taken e m others ≡ whole
-    line_goes whole m u went more inv =
-        rw (more, ← same) (ap (λ r. go_on (i + 1) r (λ f. lines_taken f (i + 1) others)) (sym (goes e (i + 1) _ took told u read passed went)) ∙ sym turn ∙ inv)
-
-    pub line_stops : (text : List ℕ) (f : Failure Mistake) → told ≡ Err f → lines_taken d n all ≡ lines_taken start 0 (lines text) → Parses (Err f) (script_of text)
-    line_stops text f failed inv =
-        stops e (i + 1) (line_taken d (i + 1) line) (script_of text) (λ r. lines_taken r (i + 1) others) took told f read passed failed (ap closed (sym turn ∙ inv))

@@ -15,11 +15,6 @@ loop-high-preserved c =
     let chunks = c.as_chunks.ensures in
     pair_goes _ c.args.word.now (vec_items c.loop-high.bytes) c.as_chunks.result.0.now c.loop-high.high-index c.hex_byte.result (omega arith) chunks.front chunks.front_len c.hex_byte.ensures c.loop-high.invariant (vec_items c.push.new.self) c.in_ok-byte.byte c.in_ok-byte.ensures.ok_part c.in_ok-push.ensures.items
 
-pub returns-then-is_empty : goal.returns-then-is_empty
-returns-then-is_empty c =
-    let end = pairs_end _ c.args.word.now (vec_items c.loop-high.bytes) c.as_chunks.result.1.now c.loop-high.high-index (omega (arith, c.as_chunks.ensures.front_len)) c.as_chunks.ensures.back c.loop-high.invariant in
-    search rules
-
 pub returns-else-is_empty : goal.returns-else-is_empty
 returns-else-is_empty c =
     let end = pairs_end _ c.args.word.now (vec_items c.loop-high.bytes) c.as_chunks.result.1.now c.loop-high.high-index (omega (arith, c.as_chunks.ensures.front_len)) c.as_chunks.ensures.back c.loop-high.invariant in

@@ -14,9 +14,6 @@ returns-in_err-section c =
     let fuel : all - n ≡ suc (all - n - 1) = omega (arith, section_shortens bs more) in
     rw (p.1, p.2) (section_fails _ bs (vec_items c.loop-line.sections) (all - n) (all - n - 1) _ more fuel c.in_err-section.ensures.value c.loop-line.invariant.1)
 
-pub loop-line-smaller : goal.loop-line-smaller
-loop-line-smaller c = omega (arith, section_shortens (left c.loop-line.line) c.loop-line-test.ensures, ap length c.number.ensures.after)
-
 pub loop-line-preserved : goal.loop-line-preserved
 loop-line-preserved c =
     let bs = left c.loop-line.line in

@@ -3,8 +3,7 @@ use Rattle.std.proofs.lemmas.Slice.Eq.{text_from_reads}
 use Rattle.script.proofs.Pairs.{pair_last}
 use Rattle.script.specs.Draft.{slots}
 use Rattle.script.specs.Told.{told}
-use Rattle.script.specs.Words.{last_number_at, last_pair_at, left}
-use Rattle.script.specs.declared.steps.Medium.TheVariants.{Pages}
+use Rattle.script.specs.Words.{last_pair_at, left}
 use Rattle.script.proofs.settings.read_medium.Goals as goal
 
 pub returns-in-slots : goal.returns-in-slots
@@ -13,11 +12,4 @@ returns-in-slots c =
     let last : c.last.result ≡ last_pair_at (left c.word.new.self) =
     let e = c.last.ensures in e.3 ∙ pair_last _ _ _ _ _ (ap left e.2.shows) (ap left e.2.leaves) e.2.met.0 e.2.met.1 in
     let made : c.map.result ≡ told slots c.last.result = search rules in
-    rw (← c.word.ensures.value, word, ← c.word.ensures.after, ← last) made
-
-pub returns-in-pages : goal.returns-in-pages
-returns-in-pages c =
-    let word : c.word.result.now ≡ codes "pages" = text_from_reads _ _ (omega arith) (search rules) in
-    let last : c.last-in-pages.result ≡ last_number_at (left c.word.new.self) = search rules in
-    let made : c.map-in-pages.result ≡ told Pages c.last-in-pages.result = search rules in
     rw (← c.word.ensures.value, word, ← c.word.ensures.after, ← last) made
