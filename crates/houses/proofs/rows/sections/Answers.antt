@@ -1,17 +1,9 @@
 use Rattle.std.proofs.Common.{arith}
-use Rattle.std.proofs.lemmas.List.{at_drop_all}
-use Rattle.houses.specs.Rows.{sections_behind}
 use Rattle.houses.proofs.Counting.{count_row}
 use Rattle.houses.proofs.rows.sections.Goals as goal
-
-pub overflow_add-sections : goal.overflow_add-sections
-overflow_add-sections g c = omega (arith, c.loop-row.invariant.1, c.begun-sections.ensures.few)
 
 pub loop-row-preserved : goal.loop-row-preserved
 loop-row-preserved g c = (
   omega (arith, c.loop-row.invariant.0, c.begun-sections.ensures.value, count_row c.args.rows.now c.loop-row.row-index c.row-item.result c.loop-row.last (omega arith) c.row-item.is),
   omega (arith, c.loop-row.invariant.1, c.begun-sections.ensures.few),
 )
-
-pub returns : goal.returns
-returns g c = omega (arith, c.loop-row.invariant.0, at_drop_all (sections_behind c.loop-row.last) c.args.rows.now c.loop-row.row-index (omega arith))
