@@ -21,12 +21,12 @@ struct Times {
 
 // Which sections stand: so many, numbered from 0 in equal steps.
 #[derive(Clone, Copy)]
-struct Sections {
+struct Numbering {
     count: u64,
     step: u64,
 }
 
-impl Sections {
+impl Numbering {
     fn number(self, i: u64) -> u64 {
         (i % self.count.max(1)).wrapping_mul(self.step)
     }
@@ -40,7 +40,7 @@ struct Full {
 }
 
 // Brings each section to `base` bytes, with zeros.
-fn fill<S: Storage>(storage: &mut S, sections: Sections, base: u64) {
+fn fill<S: Storage>(storage: &mut S, sections: Numbering, base: u64) {
     let block = [0u8; 256];
     for section in (0..sections.count).map(|i| sections.number(i)) {
         for _ in 0..(base / 256) {
@@ -56,21 +56,16 @@ fn fill<S: Storage>(storage: &mut S, sections: Sections, base: u64) {
 // A batch of calls, each on its section; every one must be taken.
 fn batch<F: FnMut(u64) -> bool>(
     rt: &HostRuntime,
-    sections: Sections,
-    mut call: F,
+    sections: Numbering,
+    call: F,
     refused: &str,
 ) -> anyhow::Result<Hundredths>
     requires { F.IsAlwaysCallable call }
 {
     let start = Instant::now(rt)?;
-    let mut taken = 0u64;
-    for section in (0..BATCH).map(|i| sections.number(i)) {
-        if call(section) {
-            taken = taken.saturating_add(1);
-        }
-    }
+    let taken = (0..BATCH).map(|i| sections.number(i)).all(call);
     let nanos = start.elapsed(rt)?.as_nanos();
-    if taken < BATCH {
+    if !taken {
         return Err(anyhow!("{refused} was refused"));
     }
     Ok(Hundredths::each(nanos, BATCH))
@@ -85,7 +80,7 @@ const NEVER: Times = Times {
 fn measure<S: Storage>(
     rt: &HostRuntime,
     storage: &mut S,
-    sections: Sections,
+    sections: Numbering,
     base: u64,
     buffer: &mut [u8],
     before: Times,
@@ -116,7 +111,7 @@ fn compare<S: Storage>(
     rt: &HostRuntime,
     name: &str,
     storage: &mut S,
-    sections: Sections,
+    sections: Numbering,
     full: u64,
     buffer: &mut [u8],
 ) -> anyhow::Result<Times> {
@@ -139,7 +134,7 @@ fn compare<S: Storage>(
 fn print_row(
     rt: &HostRuntime,
     name: &str,
-    sections: Sections,
+    sections: Numbering,
     size: usize,
     filling: &str,
     times: Times,
@@ -153,13 +148,9 @@ fn print_row(
     Ok(())
 }
 
-fn percent(a: Hundredths, b: Hundredths) -> u64 {
-    a.0.saturating_mul(100) / b.0.max(1)
-}
-
 fn print_ratio(rt: &HostRuntime, what: &str, a: Times, b: Times) -> anyhow::Result<()> {
-    let append = percent(a.append, b.append);
-    let read = percent(a.read, b.read);
+    let append = a.append.percent_of(b.append);
+    let read = a.read.percent_of(b.read);
     println!(rt; "    {what}: append {append} percent, read {read} percent")?;
     Ok(())
 }
@@ -171,10 +162,10 @@ fn measure_records<S: Storage>(
     full: Full,
     record: &mut [u8],
 ) -> anyhow::Result<()> {
-    let alone = Sections { count: 1, step: 1 };
+    let alone = Numbering { count: 1, step: 1 };
     let one = compare(rt, name, storage, alone, full.one, record)?;
     for step in [1, 3] {
-        let sections = Sections { count: 64, step };
+        let sections = Numbering { count: 64, step };
         let many = compare(rt, name, storage, sections, full.many, record)?;
         print_ratio(rt, "64 sections to 1", many, one)?;
     }

@@ -32,20 +32,15 @@ const NEVER: Costs = Costs {
 fn each<F: FnMut(u64) -> bool>(
     rt: &HostRuntime,
     items: u64,
-    mut call: F,
+    call: F,
     refused: &str,
 ) -> anyhow::Result<Hundredths>
     requires { F.IsAlwaysCallable call }
 {
     let start = Instant::now(rt)?;
-    let mut taken = 0u64;
-    for i in 0..items {
-        if call(i) {
-            taken = taken.saturating_add(1);
-        }
-    }
+    let taken = (0..items).all(call);
     let nanos = start.elapsed(rt)?.as_nanos();
-    if taken < items {
+    if !taken {
         return Err(anyhow!("{refused} was refused"));
     }
     Ok(Hundredths::each(nanos, items))
@@ -60,17 +55,12 @@ fn replay_all<S: Storage + Drop>(
 ) -> anyhow::Result<(S, Hundredths)> {
     let start = Instant::now(rt)?;
     let mut replay = Journal::<DateMark, S>::init(storage).replay(0, 0);
-    let mut taken = 0u64;
     let mut item = None;
-    for _ in 0..items {
-        if let Ok(Some(_)) = replay.next(work, &mut item) {
-            taken = taken.saturating_add(1);
-        }
-    }
+    let taken = (0..items).all(|_| matches!(replay.next(work, &mut item), Ok(Some(_))));
     let drained = matches!(replay.next(work, &mut item), Ok(None));
     let finished = replay.finish();
     let nanos = start.elapsed(rt)?.as_nanos();
-    if taken < items || !drained || finished.answer.is_err() {
+    if !taken || !drained || finished.answer.is_err() {
         return Err(anyhow!("a replay was refused"));
     }
     Ok((finished.journal.close(), Hundredths::each(nanos, items)))
@@ -145,7 +135,7 @@ fn print_call(
     cost: Hundredths,
     few: Hundredths,
 ) -> anyhow::Result<()> {
-    let percent = cost.0.saturating_mul(100) / few.0.max(1);
+    let percent = cost.percent_of(few);
     println!(rt; "{name} {call} of {items} items: {cost} ns an item, {percent} % of 1000 items")?;
     Ok(())
 }

@@ -14,13 +14,12 @@ mod steps;
 mod working;
 
 fn work_one(rt: &HostRuntime, file: File) -> anyhow::Result<()> {
-    let File { name: _, script } = file;
-    match script.kind {
+    match file.script.kind {
         Kind::Mark => {
-            let _ = working::work::<DateMark>(rt, script)?;
+            let _ = working::work::<DateMark>(rt, file.script)?;
         }
         Kind::Line => {
-            let _ = working::work::<ImprintLine>(rt, script)?;
+            let _ = working::work::<ImprintLine>(rt, file.script)?;
         }
     }
     Ok(())
@@ -49,8 +48,7 @@ fn work_both<V: Item + PartialEq + Drop>(
 fn work_two(rt: &HostRuntime, one: File, other: File) -> anyhow::Result<()> {
     if one.script.kind != other.script.kind {
         let told = files::other_kind(rt.alloc(), other.name.as_str(), one.name.as_str())?;
-        eprintln!(rt; "{told}")?;
-        return Err(anyhow!("nothing was worked"));
+        return program::refuse(rt, told.as_str());
     }
     match one.script.kind {
         Kind::Mark => work_both::<DateMark>(rt, one, other),
@@ -61,13 +59,9 @@ fn work_two(rt: &HostRuntime, one: File, other: File) -> anyhow::Result<()> {
 fn run(rt: &HostRuntime) -> anyhow::Result<()> {
     let mut args = env::args(rt)?;
     let _ = args.next();
-    let Some(name) = args.next() else {
+    let (Some(name), other, None) = (args.next(), args.next(), args.next()) else {
         return Err(anyhow!("usage: houses FILE [FILE]"));
     };
-    let other = args.next();
-    if args.next().is_some() {
-        return Err(anyhow!("usage: houses FILE [FILE]"));
-    }
     let one = files::read(rt, name)?;
     match other {
         None => work_one(rt, one),

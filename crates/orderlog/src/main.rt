@@ -14,8 +14,10 @@ fn check_steps(rt: &HostRuntime, name: &str, script: &Script) -> anyhow::Result<
         if !matches!(&step.call, Call::Open | Call::Append { .. } | Call::Close) {
             let line = step.line;
             let word = step.call.word();
-            eprintln!(rt; "{name}: line {line}: the step {word} is not worked by this build")?;
-            return Err(anyhow!("nothing was worked"));
+            let told = format!(in rt.alloc();
+                "{name}: line {line}: the step {word} is not worked by this build"
+            )?;
+            return program::refuse(rt, told.as_str());
         }
     }
     Ok(())
@@ -24,12 +26,9 @@ fn check_steps(rt: &HostRuntime, name: &str, script: &Script) -> anyhow::Result<
 fn run(rt: &HostRuntime) -> anyhow::Result<()> {
     let mut args = env::args(rt)?;
     let _ = args.next();
-    let Some(name) = args.next() else {
+    let (Some(name), None) = (args.next(), args.next()) else {
         return Err(anyhow!("usage: orderlog FILE"));
     };
-    if args.next().is_some() {
-        return Err(anyhow!("usage: orderlog FILE"));
-    }
     let script = program::read(rt, name.as_str())?;
     check_steps(rt, name.as_str(), &script)?;
     output::work(rt, &script)

@@ -6,7 +6,7 @@ mod files;
 mod making;
 
 pub use digits::Digits;
-pub use files::read;
+pub use files::{read, refuse};
 pub use making::{pages, slots, work_buffer};
 
 #[cfg(test)]

@@ -83,10 +83,7 @@ fn work(line: &mut Line) -> Result<Option<u64>, Problem>
 {
     match line.word() {
         b"" => Ok(None),
-        b"with" => {
-            let length = line.last(Line::number)?;
-            Ok(Some(length))
-        }
+        b"with" => line.last(Line::number).map(Some),
         _ => Err(Problem::WordTooMany),
     }
 }

@@ -106,7 +106,7 @@ impl Draft {
         Script {
             kind: self.kind.unwrap_or(Kind::Line),
             medium: self.medium.unwrap_or(Medium::Slots {
-                area: 4194304,
+                area: 4_194_304,
                 wish: 64,
             }),
             work: self.work,

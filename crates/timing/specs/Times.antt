@@ -9,3 +9,7 @@ part_of nanos calls = min (min (nanos * 100) (2 ^ 128 - 1) / max calls 1) (2 ^ 6
 -- the whole part, a point and two digits
 abbrev pub hundredths_text : ℕ → List ℕ
 hundredths_text n = decimal (n / 100) ++ codes "." ++ decimal (n / 10 % 10) ++ decimal (n % 10)
+
+-- how many percent of one time another is, the greatest number of 64 bits for its hundredfold at most
+abbrev pub percent : ℕ → ℕ → ℕ
+percent time other = min (time * 100) (2 ^ 64 - 1) / max other 1

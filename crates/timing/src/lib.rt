@@ -2,7 +2,7 @@
 #![tactic(auto)]
 
 ghost use Rattle.std.specs.Prelude.{◌≡◌, Some};
-ghost use Rattle.timing.specs.Times.{hundredths_text, part_of};
+ghost use Rattle.timing.specs.Times.{hundredths_text, part_of, percent};
 
 use std::fmt;
 
@@ -17,6 +17,13 @@ impl Hundredths {
     {
         let hundredths = nanos.saturating_mul(100) / u128::from(calls.max(1));
         Hundredths(hundredths.min(u128::from(u64::MAX)) as u64)
+    }
+
+    // How many percent of another time this is.
+    pub fn percent_of(self, other: Hundredths) -> u64
+        ensures { result ≡ percent self.0 other.0 }
+    {
+        self.0.saturating_mul(100) / other.0.max(1)
     }
 }
 
