@@ -186,7 +186,7 @@ fn no_memory() -> anyhow::Error {
     anyhow!("there is not enough memory")
 }
 
-pub fn measure_all(rt: &HostRuntime) -> anyhow::Result<()> {
+pub(crate) fn measure_all(rt: &HostRuntime) -> anyhow::Result<()> {
     let heap = rt.alloc();
     // Not a power of two, so that the slots do not all fall on the same lines of the cache.
     let area = vec![in heap; 0u8; 4_000_000]?;
