@@ -186,7 +186,7 @@ fn no_memory() -> anyhow::Error {
     anyhow!("there is not enough memory")
 }
 
-pub(crate) fn measure_all(rt: &HostRuntime) -> anyhow::Result<()> {
+fn measure_slots(rt: &HostRuntime) -> anyhow::Result<()> {
     let heap = rt.alloc();
     // Not a power of two, so that the slots do not all fall on the same lines of the cache.
     let area = vec![in heap; 0u8; 4_000_000]?;
@@ -196,7 +196,11 @@ pub(crate) fn measure_all(rt: &HostRuntime) -> anyhow::Result<()> {
         one: 49_664,
         many: 62_208,
     };
-    measure_storage(rt, "slots", &mut slots, full)?;
+    measure_storage(rt, "slots", &mut slots, full)
+}
+
+fn measure_pages(rt: &HostRuntime) -> anyhow::Result<()> {
+    let heap = rt.alloc();
     let area = vec![in heap; 0u8; 1_048_576]?;
     let mut pages = Pages::new(heap, area).map_err(|_| no_memory())?;
     // 4,045 of the 4,096 pages with 1 section, 63 pages in each of 64; a batch takes the rest at most.
@@ -205,4 +209,10 @@ pub(crate) fn measure_all(rt: &HostRuntime) -> anyhow::Result<()> {
         many: 16_128,
     };
     measure_storage(rt, "pages", &mut pages, full)
+}
+
+// One storage after the other, so that they are never both in memory.
+pub(crate) fn measure_all(rt: &HostRuntime) -> anyhow::Result<()> {
+    measure_slots(rt)?;
+    measure_pages(rt)
 }

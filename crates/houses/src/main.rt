@@ -37,7 +37,7 @@ fn work_both<V: Item + PartialEq + Drop>(
     let File { name, script } = other;
     println!(rt; "== {name}")?;
     let beside = working::work::<V>(rt, script)?;
-    if rows == beside {
+    if rows::same_rows(&rows, &beside) {
         rt.println("read-outs equal")?;
     } else {
         rt.println("read-outs differ")?;

@@ -1,6 +1,6 @@
-// The rows of read-outs: their items' bytes, and how many sections they are of.
+// The rows of read-outs: their items' bytes, how many sections they are of, and whether two read-outs are equal.
 ghost use Rattle.std.specs.Prelude.{◌≡◌, ◌≤◌, None};
-ghost use Rattle.houses.specs.Rows.{begun, sections_behind};
+ghost use Rattle.houses.specs.Rows.{begun, same_rows, sections_behind};
 
 use item::Item;
 use journal::Row;
@@ -33,4 +33,11 @@ pub(crate) fn sections<V>(rows: &[Row<V>]) -> usize
         last = Some(section);
     }
     sections
+}
+
+// Whether two read-outs are equal: row by row the same section, offset, size and item.
+pub(crate) fn same_rows<V: PartialEq>(one: &[Row<V>], other: &[Row<V>]) -> bool
+    ensures { result ≡ same_rows V.PartialEq.eq one.now other.now }
+{
+    one == other
 }

@@ -1,1 +1,2 @@
 pub mod Strips
+mod Folds

@@ -5,3 +5,4 @@ pub mod LineTurns
 pub mod Pairs
 pub mod SectionTurns
 pub mod StepLines
+pub mod VerbWords

@@ -1,7 +1,7 @@
 -- Lines cut off one by one, and how many there are.
-use Rattle.std.proofs.Common.{◌≡◌, ℕ, suc, ◌+◌, ◌≤◌, true, false, List, [], ◌∷◌, map, length, take, drop, ◌==◌, sym, refl, ap, ◌∙◌, ⊎_elim, one-add, arith}
+use Rattle.std.proofs.Common.{◌≡◌, ℕ, suc, ◌+◌, ◌<◌, ◌≤◌, true, false, List, [], ◌∷◌, map, length, take, drop, ◌==◌, sym, refl, ap, ◌∙◌, ⊎_elim, one-add, arith}
 use Rattle.std.specs.List.{prefix_len}
-use Rattle.std.proofs.lemmas.List.{length-map}
+use Rattle.std.proofs.lemmas.List.{length-drop, length-map}
 use Rattle.std.proofs.lemmas.Bool.{cases_Bool, cond-true, cond-false, eqb-false}
 use Rattle.script.specs.Bytes.{of_line}
 use Rattle.script.specs.Lines.{after_line, in_front, line_at, lines, pieces, without_return}
@@ -36,6 +36,9 @@ pieces_split b (x ∷ xs) = ⊎_elim (λ e. inside b (x ∷ xs) e (ap (in_front 
 pub lines_split : (bs line rest : List ℕ) → false ≡ (length bs == 0) → line ≡ line_at bs → rest ≡ after_line bs → lines bs ≡ line ∷ lines rest
 lines_split [] line rest some first left = absurd (omega (arith, eqb-false 0 0 (sym some) refl))
 lines_split (b ∷ bs) line rest some first left = rw (first, left) (ap (map without_return) (pieces_split b bs))
+
+pub line_shortens : (bs : List ℕ) → 0 < length bs → length (after_line bs) < length bs
+line_shortens bs some = omega (arith, length-drop (prefix_len of_line bs + 1) bs)
 
 length_front : (b : ℕ) (ls : List (List ℕ)) → length (in_front b ls) ≤ suc (length ls)
 length_front b [] = omega arith
